@@ -1,0 +1,82 @@
+// How a header is made and read, and the check of records against it.
+ghost use mathlib.Core.Path.{_≡_};
+ghost use Rattle.duty.specs.Heads.{header-of, heads, head, records-fault};
+use super::Header;
+use crate::letters::Letter;
+use crate::records::Record;
+use crate::records::first_misfit;
+use crate::timings::LONGEST;
+use fault::Cause;
+use fault::Fault;
+use fault::Layer;
+
+impl Header {
+    // The most duties of a table.
+    pub const MOST_DUTIES: u8 = 64;
+
+    // A header of these numbers, if they keep the limits.
+    pub fn new(letter: Letter, boards: u8, duties: u8, cycle: u32) -> Option<Header>
+        ensures { λ r. ⌜ heads r ≡ header-of letter boards duties cycle ⌝ }
+    {
+        if boards < 1 || boards > Record::MOST_BOARDS {
+            return None;
+        }
+        if duties > Self::MOST_DUTIES || cycle < 1 || cycle > LONGEST {
+            return None;
+        }
+        Some(Header {
+            letter,
+            boards,
+            duties,
+            cycle,
+        })
+    }
+
+    pub fn letter(&self) -> Letter
+        ensures { λ r. ⌜ r ≡ now (self .entry) .letter ⌝ }
+    {
+        self.letter
+    }
+
+    pub fn boards(&self) -> u8
+        ensures { λ r. ⌜ r ≡ now (self .entry) .boards ⌝ }
+    {
+        self.boards
+    }
+
+    pub fn duties(&self) -> u8
+        ensures { λ r. ⌜ r ≡ now (self .entry) .duties ⌝ }
+    {
+        self.duties
+    }
+
+    pub fn cycle(&self) -> u32
+        ensures { λ r. ⌜ r ≡ now (self .entry) .cycle ⌝ }
+    {
+        self.cycle
+    }
+
+    // What a call over records first asks: enough of them, and each of the header's a duty record of its cycle.
+    pub fn check(&self, records: &[Record]) -> Result<(), Fault>
+        ensures { λ r. ⌜ r ≡ records-fault (head (now (self .entry))) (now (records .entry)) ⌝ }
+    {
+        let duties = self.duties as usize;
+        if records.len() < duties {
+            return Err(Fault {
+                cause: Cause::RecordsShort,
+                line: 1,
+                column: 10,
+                layer: Layer::Call,
+            });
+        }
+        match first_misfit(&records[0..duties], self.cycle) {
+            Some(i) => Err(Fault {
+                cause: Cause::NotADuty,
+                line: i + 2,
+                column: 25,
+                layer: Layer::Call,
+            }),
+            None => Ok(()),
+        }
+    }
+}
