@@ -21,6 +21,7 @@ pub use records::Record;
 pub use records::RecordDebug;
 pub use records::RecordEq;
 pub use records::RecordPartialEq;
+pub use records::first_misfit;
 pub use timings::LONGEST;
 pub use timings::Timing;
 pub use timings::TimingDebug;

@@ -39,7 +39,7 @@ impl Record {
 }
 
 // The first row that is no duty record of the cycle.
-pub(crate) fn first_misfit(records: &[Record], cycle: u32) -> Option<usize>
+pub fn first_misfit(records: &[Record], cycle: u32) -> Option<usize>
     ensures answer { λ r. ⌜ r ≡ first-misfit cycle (now (records .entry)) ⌝ }
     ensures within { λ r. ⌜ found r (λ i. i < length (now (records .entry))) ⌝ }
 {

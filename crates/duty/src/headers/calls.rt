@@ -1,14 +1,10 @@
-// How a header is made and read, and the check of records against it.
+// How a header is made and read.
 ghost use mathlib.Core.Path.{_≡_};
-ghost use Rattle.duty.specs.Heads.{header-of, heads, head, records-fault};
+ghost use Rattle.duty.specs.Heads.{header-of, heads};
 use super::Header;
 use crate::letters::Letter;
 use crate::records::Record;
-use crate::records::first_misfit;
 use crate::timings::LONGEST;
-use fault::Cause;
-use fault::Fault;
-use fault::Layer;
 
 impl Header {
     // The most duties of a table.
@@ -54,29 +50,5 @@ impl Header {
         ensures { λ r. ⌜ r ≡ now (self .entry) .cycle ⌝ }
     {
         self.cycle
-    }
-
-    // What a call over records first asks: enough of them, and each of the header's a duty record of its cycle.
-    pub fn check(&self, records: &[Record]) -> Result<(), Fault>
-        ensures { λ r. ⌜ r ≡ records-fault (head (now (self .entry))) (now (records .entry)) ⌝ }
-    {
-        let duties = self.duties as usize;
-        if records.len() < duties {
-            return Err(Fault {
-                cause: Cause::RecordsShort,
-                line: 1,
-                column: 10,
-                layer: Layer::Call,
-            });
-        }
-        match first_misfit(&records[0..duties], self.cycle) {
-            Some(i) => Err(Fault {
-                cause: Cause::NotADuty,
-                line: i + 2,
-                column: 25,
-                layer: Layer::Call,
-            }),
-            None => Ok(()),
-        }
     }
 }
