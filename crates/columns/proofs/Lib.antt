@@ -1,3 +1,9 @@
 pub mod Reading
 pub mod Writing
 pub mod Justified
+pub mod Clean
+pub mod Segments
+pub mod FieldTrips
+pub mod LineTrips
+pub mod SheetTrips
+pub mod IdleBytes
