@@ -1,0 +1,8 @@
+use Rattle.columns.specs.declared.forms.Form.the-variants.{Plan}
+use Rattle.reader.proofs.ReadLaw.{read-law}
+use Rattle.reader.proofs.sheets.read_plan.Needs as need
+
+pub returns : need.returns
+returns c =
+    let told = c .read .ensures in
+    record { answer = told .answer; after = told .after; law = read-law Plan _ _ _ _ (told .answer) (told .after) }
