@@ -23,15 +23,15 @@ module _ (form : Form) (bs : List ℕ) (old new : List Record) (r : Result Head 
       let count = told .valid .count in
       let rows : take (t .head .duties) new ≡ t .rows = ap (take (t .head .duties)) b ∙ take-at (t .rows) (drop (length (t .rows)) old) (t .head .duties) count in
       let past : drop (t .head .duties) new ≡ drop (t .head .duties) old =
-        ap (drop (t .head .duties)) b ∙ drop-at (t .rows) (drop (length (t .rows)) old) (t .head .duties) count ∙ ap (λ (n : ℕ). drop n old) count in
+      ap (drop (t .head .duties)) b ∙ drop-at (t .rows) (drop (length (t .rows)) old) (t .head .duties) count ∙ ap (λ (n : ℕ). drop n old) count in
       let head-is : (h : Head) → r ≡ Ok h → t .head ≡ h = λ h q. (let k = sym a ∙ q in cc) in
       record {
         only = λ h q.
-          let P : Head → Type 0 = λ x. Reads-as form (length old) bs (record { head = x; rows = take (x .duties) new }) in
-          subst P (head-is h q) (subst (λ (xs : List Record). Reads-as form (length old) bs (record { head = t .head; rows = xs })) (sym rows) told);
+            let P : Head → Type 0 = λ x. Reads-as form (length old) bs (record { head = x; rows = take (x .duties) new }) in
+            subst P (head-is h q) (subst (λ (xs : List Record). Reads-as form (length old) bs (record { head = t .head; rows = xs })) (sym rows) told);
         back = λ u reads.
-          let same : t ≡ u = let k = sym e ∙ one-text .back form (length old) bs u reads in cc in
-          subst (λ (x : Sheet). (r ≡ Ok (x .head)) × (take (x .head .duties) new ≡ x .rows)) same (a, rows);
+            let same : t ≡ u = let k = sym e ∙ one-text .back form (length old) bs u reads in cc in
+            subst (λ (x : Sheet). (r ≡ Ok (x .head)) × (take (x .head .duties) new ≡ x .rows)) same (a, rows);
         past = λ h q. subst (λ (x : Head). drop (x .duties) new ≡ drop (x .duties) old) (head-is h q) past;
         kept = λ f q. absurd (never (sym q ∙ a));
       }

@@ -68,10 +68,10 @@ module _ (form : Form) (cycle : ℕ) where
       let one : n - i ≡ suc m = omega arith in
       let front : take (i + 1) (set rows i x) ≡ take i rows ++ x ∷ [] = take-more-set rows i x k in
       let back : records-of form m cycle pos′ line′ (drop pos′ text′) ≡ records-of form m cycle (pos + w) (line + 1) (drop w (drop pos text)) =
-        ap (λ (s : List ℕ). records-of form m cycle pos′ line′ (drop pos′ s)) t
-        ∙ ap (λ (q : ℕ). records-of form m cycle q line′ (drop q text)) p
-        ∙ ap (λ (q : ℕ). records-of form m cycle (pos + w) q (drop (pos + w) text)) l
-        ∙ ap (records-of form m cycle (pos + w) (line + 1)) (sym (drop-drop w pos text)) in
+      ap (λ (s : List ℕ). records-of form m cycle pos′ line′ (drop pos′ s)) t
+      ∙ ap (λ (q : ℕ). records-of form m cycle q line′ (drop q text)) p
+      ∙ ap (λ (q : ℕ). records-of form m cycle (pos + w) q (drop (pos + w) text)) l
+      ∙ ap (records-of form m cycle (pos + w) (line + 1)) (sym (drop-drop w pos text)) in
       ap (λ (s : List Record). before s (records-of form m cycle pos′ line′ (drop pos′ text′))) front
       ∙ ap (before (take i rows ++ x ∷ [])) back
       ∙ more-at (n - i) m pos line (drop pos text) (take i rows) x one e

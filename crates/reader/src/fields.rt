@@ -29,10 +29,20 @@ impl<'a> Reader<'a> {
     {
         let left = &self.text[self.pos..];
         if left.len() == 0 {
-            return Err(Fault { cause: Cause::MissingLine, line: self.line, column: 1, layer: Layer::Line });
+            return Err(Fault {
+                cause: Cause::MissingLine,
+                line: self.line,
+                column: 1,
+                layer: Layer::Line,
+            });
         }
         if !ends_at(left, width) {
-            return Err(Fault { cause: Cause::BadLength, line: self.line, column: 1, layer: Layer::Line });
+            return Err(Fault {
+                cause: Cause::BadLength,
+                line: self.line,
+                column: 1,
+                layer: Layer::Line,
+            });
         }
         Ok(())
     }
@@ -47,10 +57,20 @@ impl<'a> Reader<'a> {
     {
         let columns = &self.text[self.pos + (field.first - 1)..self.pos + field.last];
         match read_number(columns) {
-            None => Err(Fault { cause: Cause::BadNumeral, line: self.line, column: field.first, layer: Layer::Field }),
+            None => Err(Fault {
+                cause: Cause::BadNumeral,
+                line: self.line,
+                column: field.first,
+                layer: Layer::Field,
+            }),
             Some(n) => {
                 if n < field.least || n > field.most {
-                    Err(Fault { cause: Cause::OutOfRange, line: self.line, column: field.first, layer: Layer::Field })
+                    Err(Fault {
+                        cause: Cause::OutOfRange,
+                        line: self.line,
+                        column: field.first,
+                        layer: Layer::Field,
+                    })
                 } else {
                     Ok(n)
                 }
@@ -75,7 +95,12 @@ impl<'a> Reader<'a> {
     {
         let good = word_prefix(&self.text[self.pos..], word);
         if good < word.len() {
-            return Err(Fault { cause: Cause::BadCharacter, line: self.line, column: good + 1, layer: Layer::Field });
+            return Err(Fault {
+                cause: Cause::BadCharacter,
+                line: self.line,
+                column: good + 1,
+                layer: Layer::Field,
+            });
         }
         Ok(())
     }
@@ -88,7 +113,12 @@ impl<'a> Reader<'a> {
         match Letter::from_byte(self.text[self.pos + (LETTER_COLUMN - 1)]) {
             Some(letter) => Ok(letter),
             None => {
-                Err(Fault { cause: Cause::BadCharacter, line: self.line, column: LETTER_COLUMN, layer: Layer::Field })
+                Err(Fault {
+                    cause: Cause::BadCharacter,
+                    line: self.line,
+                    column: LETTER_COLUMN,
+                    layer: Layer::Field,
+                })
             }
         }
     }
@@ -102,7 +132,12 @@ impl<'a> Reader<'a> {
         let bytes = self.text[place..].first_chunk::<8>().unwrap();
         let good = good_prefix(bytes);
         if good < 8 {
-            return Err(Fault { cause: Cause::BadCharacter, line: self.line, column: good + 1, layer: Layer::Field });
+            return Err(Fault {
+                cause: Cause::BadCharacter,
+                line: self.line,
+                column: good + 1,
+                layer: Layer::Field,
+            });
         }
         Ok(NamePart { bytes, place })
     }

@@ -32,9 +32,21 @@ pub struct NamePart<'a> {
 // A line by its case.
 #[derive(Clone, Copy)]
 pub enum Line<'a> {
-    Header { letter: Letter, boards: u8, duties: u8, cycle: u32 },
-    Table { name: NamePart<'a>, timing: Timing },
-    Plan { name: NamePart<'a>, timing: Timing, board: u8 },
+    Header {
+        letter: Letter,
+        boards: u8,
+        duties: u8,
+        cycle: u32,
+    },
+    Table {
+        name: NamePart<'a>,
+        timing: Timing,
+    },
+    Plan {
+        name: NamePart<'a>,
+        timing: Timing,
+        board: u8,
+    },
 }
 
 // Which line is due: a header, or a duty's line in a text with this cycle.
@@ -51,7 +63,11 @@ impl<'a> Reader<'a> {
         ensures pos { λ r. ⌜ r .pos ≡ 0 ⌝ }
         ensures line { λ r. ⌜ r .line ≡ 1 ⌝ }
     {
-        Reader { text, pos: 0, line: 1 }
+        Reader {
+            text,
+            pos: 0,
+            line: 1,
+        }
     }
 
     // Reads the line that is due, and moves past it; where it is refused, stays.
@@ -66,7 +82,12 @@ impl<'a> Reader<'a> {
                 let boards = header.boards();
                 let duties = header.duties();
                 let cycle = header.cycle();
-                Ok(Line::Header { letter, boards, duties, cycle })
+                Ok(Line::Header {
+                    letter,
+                    boards,
+                    duties,
+                    cycle,
+                })
             }
             Due::Duty(form, cycle) => self.duty_line(form, cycle),
         }
@@ -102,17 +123,35 @@ impl<'a> Reader<'a> {
         let spacing = self.number(SPACING)?;
         let board = self.board(form)?;
         if cost > deadline || deadline > spacing {
-            return Err(Fault { cause: Cause::OutOfOrder, line: self.line, column: COST.first, layer: Layer::Line });
+            return Err(Fault {
+                cause: Cause::OutOfOrder,
+                line: self.line,
+                column: COST.first,
+                layer: Layer::Line,
+            });
         }
         if cycle % spacing != 0 {
-            return Err(Fault { cause: Cause::NotADivisor, line: self.line, column: SPACING.first, layer: Layer::Line });
+            return Err(Fault {
+                cause: Cause::NotADivisor,
+                line: self.line,
+                column: SPACING.first,
+                layer: Layer::Line,
+            });
         }
         self.pos += width + 1;
         self.line += 1;
-        let timing = Timing { cost, deadline, spacing };
+        let timing = Timing {
+            cost,
+            deadline,
+            spacing,
+        };
         match form {
             Form::Table => Ok(Line::Table { name, timing }),
-            Form::Plan => Ok(Line::Plan { name, timing, board }),
+            Form::Plan => Ok(Line::Plan {
+                name,
+                timing,
+                board,
+            }),
         }
     }
 }

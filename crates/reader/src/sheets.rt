@@ -23,7 +23,11 @@ use fault::Layer;
 
 const BLANK: Record = Record {
     name: Name { bytes: [b' '; 8] },
-    timing: Timing { cost: 0, deadline: 0, spacing: 0 },
+    timing: Timing {
+        cost: 0,
+        deadline: 0,
+        spacing: 0,
+    },
     board: 0,
 };
 
@@ -34,8 +38,20 @@ impl<'a> Reader<'a> {
         ensures moves { λ r. ⌜ Moved (line-width form) (isOk r) (now (self .entry)) (now (self .exit)) ⌝ }
     {
         match self.line(Due::Duty(form, cycle))? {
-            Line::Table { name, timing } => Ok(Record { name: Name { bytes: *name.bytes }, timing, board: 0 }),
-            Line::Plan { name, timing, board } => Ok(Record { name: Name { bytes: *name.bytes }, timing, board }),
+            Line::Table { name, timing } => Ok(Record {
+                name: Name { bytes: *name.bytes },
+                timing,
+                board: 0,
+            }),
+            Line::Plan {
+                name,
+                timing,
+                board,
+            } => Ok(Record {
+                name: Name { bytes: *name.bytes },
+                timing,
+                board,
+            }),
             Line::Header { .. } => unreachable(),
         }
     }
@@ -48,14 +64,24 @@ impl<'a> Reader<'a> {
             records[i] = self.duty_record(form, cycle)?;
         }
         if self.pos < self.text.len() {
-            return Err(Fault { cause: Cause::TrailingBytes, line: self.line, column: 1, layer: Layer::Table });
+            return Err(Fault {
+                cause: Cause::TrailingBytes,
+                line: self.line,
+                column: 1,
+                layer: Layer::Table,
+            });
         }
         Ok(())
     }
 
     // Reads a whole text from its start. The lines go through the scratch records, so that a refusal
     // leaves the records as they were.
-    fn sheet(&mut self, form: Form, scratch: &mut [Record], records: &mut [Record]) -> Result<Header, Fault>
+    fn sheet(
+        &mut self,
+        form: Form,
+        scratch: &mut [Record],
+        records: &mut [Record],
+    ) -> Result<Header, Fault>
         requires start { ⌜ (now self .pos ≡ 0) × (now self .line ≡ 1) ⌝ }
         requires scratch { ⌜ most-duties ≤ length (now scratch) ⌝ }
         ensures answer { λ r. ⌜ headers r ≡ head-in (sheet-of form (length (now (records .entry))) (now (self .entry) .text .now)) ⌝ }
@@ -64,7 +90,12 @@ impl<'a> Reader<'a> {
         let header = self.header(form)?;
         let duties = header.duties() as usize;
         if records.len() < duties {
-            return Err(Fault { cause: Cause::RecordsShort, line: 1, column: DUTIES.first, layer: Layer::Table });
+            return Err(Fault {
+                cause: Cause::RecordsShort,
+                line: 1,
+                column: DUTIES.first,
+                layer: Layer::Table,
+            });
         }
         let rows = &mut scratch[0..duties];
         self.records(form, header.cycle(), rows)?;

@@ -35,7 +35,8 @@ impl Record {
         if !self.is_duty() {
             return None;
         }
-        let timing = self.timing;
-        Some(Duty { timing })
+        Some(Duty {
+            timing: self.timing,
+        })
     }
 }

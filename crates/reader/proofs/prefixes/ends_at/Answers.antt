@@ -11,16 +11,16 @@ use Rattle.reader.proofs.prefixes.ends_at.Needs.{then-i-text·by·then-i-text,
 pub returns-then-i-text : need.returns-then-i-text
 returns-then-i-text c =
     elim (c .then-i-text .came) [
-      then-i-text·by·then-i-text w ↦ sym (ends-past _ _ _ (w .if-i-text .taken)) ∙ c .loop-i .inv .0
-    | then-i-text·by·else-i-text·then-text-i-eq10 w ↦
-      let one : c .args .width - c .loop-i .i ≡ suc (c .args .width - (c .loop-i .i + 1)) = omega arith in
-      sym (ap (λ (n : ℕ). ends n (drop (c .loop-i .i) (c .args .text .now))) one ∙ ends-early _ _ (w .if-i-text .left) _ (w .if-text-i-eq10 .taken)) ∙ c .loop-i .inv .0
+      | then-i-text·by·then-i-text w ↦ sym (ends-past _ _ _ (w .if-i-text .taken)) ∙ c .loop-i .inv .0
+      | then-i-text·by·else-i-text·then-text-i-eq10 w ↦
+          let one : c .args .width - c .loop-i .i ≡ suc (c .args .width - (c .loop-i .i + 1)) = omega arith in
+          sym (ap (λ (n : ℕ). ends n (drop (c .loop-i .i) (c .args .text .now))) one ∙ ends-early _ _ (w .if-i-text .left) _ (w .if-text-i-eq10 .taken)) ∙ c .loop-i .inv .0
     ]
 
 pub loop-i-again : need.loop-i-again
 loop-i-again c = (
   let one : suc (c .args .width - (c .loop-i .i + 1)) ≡ c .args .width - c .loop-i .i = omega arith in
-  ends-more _ _ (c .if-i-text .left) _ (c .if-text-i-eq10 .left) ∙ ap (λ (n : ℕ). ends n (drop (c .loop-i .i) (c .args .text .now))) one ∙ c .loop-i .inv .0,
+      ends-more _ _ (c .if-i-text .left) _ (c .if-text-i-eq10 .left) ∙ ap (λ (n : ℕ). ends n (drop (c .loop-i .i) (c .args .text .now))) one ∙ c .loop-i .inv .0,
   omega arith,
 )
 
