@@ -1,0 +1,9 @@
+pub mod Totals
+pub mod Eaches
+pub mod Fairness
+pub mod Demands
+pub mod Dense
+pub mod Slopes
+pub mod Lines
+pub mod Cycles
+pub mod Letters

@@ -1,0 +1,4 @@
+pub mod Seating
+pub mod Clearing
+pub mod Taking
+pub mod Whole

@@ -1,0 +1,55 @@
+-- Placing as a whole: past the checks, the header's records are placed by first-fit.
+use mathlib.Core.Bool.{Bool}
+use mathlib.Core.List.{List, _++_}
+use mathlib.Core.Path.{_≡_, refl, sym, ap, subst, _∙_}
+use Prim.Native.Nat.{ℕ, _-_, _≤_}
+use native.Mathlib.Omega.{arith}
+use lib.Dec.{ltb}
+use lib.ListN.{length, take, drop, length-take}
+use Rattle.std.specs.declared.result.Result.{Result}
+use Rattle.std.specs.declared.result.Result.the-variants.{Ok, Err}
+use Rattle.std.proofs.shelf.Lists.{length-take-le}
+use Rattle.std.proofs.shelf.Tests.{cond-false, le-ltb, ltb-false}
+use Rattle.fault.specs.declared.Fault.{Fault}
+use Rattle.fault.proofs.Steps.{never, then-ok, passed-unless}
+use Rattle.duty.specs.declared.records.Record.{Record}
+use Rattle.duty.specs.declared.timings.Timing.{Timing}
+use Rattle.duty.specs.Heads.{Head}
+use Rattle.columns.specs.Checks.{records-fault}
+use Rattle.placing.specs.declared.lined.Lined.{Lined}
+use Rattle.placing.specs.Outcome.{place-fault, placed-answer, first-fit, place-answer, placed-by, place-after}
+use Rattle.placing.specs.Scratch.{Past}
+
+pub enough : (h : Head) (rs : List Record) → Ok tt ≡ records-fault h rs → h .duties ≤ length rs
+enough h rs e = ltb-false _ _ (passed-unless (ltb (length rs) (h .duties)) _ _ tt (sym e) .0)
+
+module _ (h : Head) (rs : List Record) (room d : ℕ) (good : Ok tt ≡ records-fault h rs) (is : d ≡ h .duties) (fits : d ≤ room) where
+  fine : place-fault h rs room ≡ Ok tt
+  fine = then-ok _ (sym good) ∙ cond-false _ _ _ (le-ltb room (h .duties) (omega arith))
+
+  cut : take (d - 0) rs ≡ take (h .duties) rs
+  cut = ap (λ (k : ℕ). take k rs) (omega arith)
+
+  pub part-long : length (take (d - 0) rs) ≡ h .duties
+  part-long = ap length cut ∙ length-take-le (h .duties) rs (enough h rs good)
+
+  pub no-fault : (f : Fault) → place-fault h rs room ≡ Err f → ⊥
+  no-fault f e = never (sym e ∙ fine)
+
+  pub past-part : (xs ys : List Lined) → Past (length (take (d - 0) rs)) xs ys → Past (h .duties) xs ys
+  past-part xs ys p = subst (λ (k : ℕ). Past k xs ys) part-long p
+
+  module _ (passes : List Timing → ℕ → Bool) (boards cycle : ℕ) (b : boards ≡ h .boards) (n : cycle ≡ h .cycle) where
+    whole : first-fit passes boards cycle (take (d - 0) rs) ≡ first-fit passes (h .boards) (h .cycle) (take (h .duties) rs)
+    whole =
+        ap (λ (k : ℕ). first-fit passes k cycle (take (d - 0) rs)) b
+        ∙ ap (λ (k : ℕ). first-fit passes (h .boards) k (take (d - 0) rs)) n
+        ∙ ap (first-fit passes (h .boards) (h .cycle)) cut
+
+    pub answer-is : placed-answer (first-fit passes boards cycle (take (d - 0) rs) .1) ≡ place-answer passes h rs room
+    answer-is = ap (λ r. placed-answer (r .1)) whole ∙ sym (then-ok _ fine)
+
+    pub after-is : first-fit passes boards cycle (take (d - 0) rs) .0 ++ drop (d - 0) rs ≡ place-after passes h rs room
+    after-is =
+        let e : d - 0 ≡ h .duties = omega arith in
+        (λ i. whole i .0 ++ drop (e i) rs) ∙ sym (ap (λ m. placed-by m passes h rs) fine)

@@ -1,0 +1,4 @@
+pub mod Order
+pub mod FirstFit
+pub mod Outcome
+pub mod Scratch
