@@ -1,0 +1,5 @@
+pub mod Parts
+pub mod Lines
+pub mod Rows
+pub mod Accepted
+pub mod Back
