@@ -1,8 +1,10 @@
 -- The three steps in a row: from what each answers to what the whole answers.
 use mathlib.Core.List.{List}
-use mathlib.Core.Path.{_≡_, refl, sym, ap, _∙_}
-use Prim.Native.Nat.{ℕ}
-use lib.ListN.{length}
+use mathlib.Core.Path.{_≡_, refl, sym, ap, subst, _∙_}
+use Prim.Native.Nat.{ℕ, _≤_}
+use native.Mathlib.Omega.{arith}
+use lib.ListN.{length, drop, length-append, length-drop}
+use Rattle.std.specs.Vec.{made}
 use Rattle.std.specs.declared.result.Result.{Result}
 use Rattle.std.specs.declared.result.Result.the-variants.{Ok, Err}
 use Rattle.fault.specs.declared.Fault.{Fault}
@@ -14,7 +16,7 @@ use Rattle.columns.specs.declared.forms.Form.the-variants.{Table, Plan}
 use Rattle.columns.specs.Tables.{Sheet, sheet-of, head-in, filled}
 use Rattle.gauge.specs.Letters.{letter-passed}
 use Rattle.placing.specs.Outcome.{place-answer, place-after}
-use Rattle.writer.specs.Written.{write-of}
+use Rattle.writer.specs.Written.{write-of, length-in, out-in}
 use Rattle.planner.specs.Plans.{placed-records, plan-text, records-by, plan-records}
 
 -- placing, and then writing, once this header was read and the records hold this
@@ -65,3 +67,14 @@ module _ (bs : List ℕ) (old rs : List Record) (scratch room : ℕ) (h : Head) 
 
     pub placed-text-is : Ok tt ≡ place-answer (letter-passed (h .letter)) h rs scratch → plan-text bs old scratch room ≡ write-of Plan h (place-after (letter-passed (h .letter)) h rs scratch) room
     placed-text-is e = told .text ∙ then-ok _ (sym e)
+
+-- what is said of a good answer holds of a refusal
+pub none-made : (r : Result ℕ Fault) (f : Fault) (P : ℕ → Type 0) → r ≡ Err f → made r P
+none-made r f P e = subst (λ x. made x P) (sym e) tt
+
+-- a text that was written lies within the output
+pub fits-within : (m : Result (List ℕ) Fault) (out new : List ℕ) (r : Result ℕ Fault) → r ≡ length-in m → new ≡ out-in m out → length new ≡ length out → made r (λ n. n ≤ length out)
+fits-within (Err f) out new r a b c = none-made r f (λ n. n ≤ length out) a
+fits-within (Ok bs) out new r a b c =
+    let n : length bs ≤ length out = omega (arith, ap length b, length-append bs (drop (length bs) out), length-drop (length bs) out, c) in
+    subst (λ x. made x (λ k. k ≤ length out)) (sym a) n

@@ -1,6 +1,8 @@
 // From a table's text to its plan's text.
 ghost use mathlib.Core.Path.{_≡_};
+ghost use Prim.Native.Nat.{_≤_};
 ghost use lib.ListN.{length};
+ghost use Rattle.std.specs.Vec.{made};
 ghost use Rattle.writer.specs.Written.{length-in, out-in};
 ghost use Rattle.planner.specs.Plans.{plan-text, plan-records};
 use duty::Header;
@@ -14,9 +16,15 @@ use writer::write_plan;
 
 // Reads the table, places its duties by first-fit under the header's gauge, and writes the plan.
 // Answers the length of the plan's text, or the first fault; a fault leaves the output as it was.
-pub fn plan(text: &[u8], records: &mut [Record], scratch: &mut [Lined], out: &mut [u8]) -> Result<usize, Fault>
+pub fn plan(
+    text: &[u8],
+    records: &mut [Record],
+    scratch: &mut [Lined],
+    out: &mut [u8],
+) -> Result<usize, Fault>
     ensures answer { λ r. ⌜ r ≡ length-in (plan-text (now (text .entry)) (now (records .entry)) (length (now (scratch .entry))) (length (now (out .entry)))) ⌝ }
     ensures out { λ _. ⌜ now (out .exit) ≡ out-in (plan-text (now (text .entry)) (now (records .entry)) (length (now (scratch .entry))) (length (now (out .entry)))) (now (out .entry)) ⌝ }
+    ensures within { λ r. ⌜ made r (λ n. n ≤ length (now (out .entry))) ⌝ }
     ensures records { λ _. ⌜ now (records .exit) ≡ plan-records (now (text .entry)) (now (records .entry)) (length (now (scratch .entry))) ⌝ }
     ensures scratch { λ _. ⌜ length (now (scratch .exit)) ≡ length (now (scratch .entry)) ⌝ }
 {

@@ -8,7 +8,7 @@ use Rattle.columns.specs.Tables.{filled}
 use Rattle.gauge.specs.Letters.{letter-passed}
 use Rattle.placing.specs.Outcome.{place-answer, place-after}
 use Rattle.writer.specs.Written.{write-of, length-in, out-in}
-use Rattle.planner.proofs.Chaining.{unread, unread-text, unread-records, read-records, unplaced-text, placed-text-is}
+use Rattle.planner.proofs.Chaining.{none-made, fits-within, unread, unread-text, unread-records, read-records, unplaced-text, placed-text-is}
 use Rattle.planner.proofs.plan.Needs as need
 
 pub returns-in-Break-header : need.returns-in-Break-header
@@ -24,6 +24,7 @@ returns-in-Break-header c =
     record {
       answer = p .1 ∙ ap Err (p .2) ∙ sym (ap length-in text);
       out = sym (ap (λ r. out-in r (c .args .out .now)) text);
+      within = none-made (c .from-residual .result) _ _ (p .1);
       records = told .after ∙ ap (λ m. filled m old) (unread bs old scratch room f (told .answer)) ∙ sym (unread-records bs old scratch room f (told .answer));
       scratch = refl;
     }
@@ -45,6 +46,7 @@ returns-in-Break-place c =
     record {
       answer = p .1 ∙ ap Err (p .2) ∙ sym (ap length-in text);
       out = sym (ap (λ r. out-in r (c .args .out .now)) text);
+      within = none-made (c .from-residual-in-Break-place .result) _ _ (p .1);
       records = told .after ∙ ap (λ l. place-after (letter-passed l) h rs scratch) letter ∙ sym (read-records bs old rs scratch room h (read .answer) (read .after));
       scratch = told .scratch .long;
     }
@@ -66,6 +68,7 @@ returns c =
     record {
       answer = c .write-plan .ensures .answer ∙ ap length-in text;
       out = c .write-plan .ensures .after ∙ ap (λ r. out-in r (c .args .out .now)) text;
+      within = fits-within (write-of Plan h (c .place .last .records) room) (c .args .out .now) (c .write-plan .last .out) (c .write-plan .result) (c .write-plan .ensures .answer) (c .write-plan .ensures .after) (c .write-plan .kept .out);
       records = after ∙ sym (read-records bs old rs scratch room h (read .answer) (read .after));
       scratch = told .scratch .long;
     }
