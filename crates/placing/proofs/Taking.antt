@@ -25,10 +25,10 @@ use Rattle.placing.specs.Scratch.{Past}
 
 -- the order is total
 
-total : (x y : Lined) → sooner x y ≡ false → sooner y x ≡ true
+pub total : (x y : Lined) → sooner x y ≡ false → sooner y x ≡ true
 total x y e = search needs
 
-chain : (x y z : Lined) → sooner x y ≡ true → sooner y z ≡ true → sooner x z ≡ true
+pub chain : (x y z : Lined) → sooner x y ≡ true → sooner y z ≡ true → sooner x z ≡ true
 chain x y z p q = search needs
 
 level : (x y : Lined) → sooner x y ≡ true → sooner y x ≡ true → lined-key x ≡ lined-key y

@@ -8,17 +8,19 @@ use lib.Dec.{ltb}
 use lib.ListN.{length, take, drop, length-take}
 use Rattle.std.specs.declared.result.Result.{Result}
 use Rattle.std.specs.declared.result.Result.the-variants.{Ok, Err}
-use Rattle.std.proofs.shelf.Lists.{length-take-le}
+use Rattle.std.proofs.shelf.Lists.{length-take-le, take-at}
 use Rattle.std.proofs.shelf.Tests.{cond-false, le-ltb, ltb-false}
 use Rattle.fault.specs.declared.Fault.{Fault}
-use Rattle.fault.proofs.Steps.{never, then-ok, passed-unless}
+use Rattle.fault.proofs.Steps.{never, then-ok, then-back, passed-unless}
 use Rattle.duty.specs.declared.records.Record.{Record}
 use Rattle.duty.specs.declared.timings.Timing.{Timing}
 use Rattle.duty.specs.Heads.{Head}
 use Rattle.columns.specs.Checks.{records-fault}
 use Rattle.placing.specs.declared.lined.Lined.{Lined}
+use Rattle.placing.specs.Laws.{First-fit, Placed-law}
 use Rattle.placing.specs.Outcome.{place-fault, placed-answer, first-fit, place-answer, placed-by, place-after}
 use Rattle.placing.specs.Scratch.{Past}
+use Rattle.placing.proofs.FirstFitLaw.{first-fit-law, first-fit-long}
 
 pub enough : (h : Head) (rs : List Record) → Ok tt ≡ records-fault h rs → h .duties ≤ length rs
 enough h rs e = ltb-false _ _ (passed-unless (ltb (length rs) (h .duties)) _ _ tt (sym e) .0)
@@ -53,3 +55,18 @@ module _ (h : Head) (rs : List Record) (room d : ℕ) (good : Ok tt ≡ records-
     after-is =
         let e : d - 0 ≡ h .duties = omega arith in
         (λ i. whole i .0 ++ drop (e i) rs) ∙ sym (ap (λ m. placed-by m passes h rs) fine)
+
+-- the law of a placing that got past its checks
+pub placed-law : (passes : List Timing → ℕ → Bool) (h : Head) (rs after : List Record) (room : ℕ) (r : Result (Unit {0}) Fault) → r ≡ place-answer passes h rs room → after ≡ place-after passes h rs room → place-fault h rs room ≡ Ok tt → Placed-law passes (h .boards) (h .cycle) (h .duties) rs after r
+placed-law passes h rs after room r a b e =
+    then-back (records-fault h rs) _ tt e (λ _ good _.
+    let ff = first-fit passes (h .boards) (h .cycle) (take (h .duties) rs) in
+    let law = first-fit-law passes (h .boards) (h .cycle) (take (h .duties) rs) in
+    let long : length (ff .0) ≡ h .duties = first-fit-long passes (h .boards) (h .cycle) (take (h .duties) rs) ∙ length-take-le (h .duties) rs (enough h rs (sym good)) in
+    let part : take (h .duties) after ≡ ff .0 =
+    ap (take (h .duties)) (b ∙ ap (λ m. placed-by m passes h rs) e) ∙ take-at (ff .0) (drop (h .duties) rs) (h .duties) long in
+    record {
+      outcome = ff .1;
+      answered = a ∙ then-ok _ e;
+      placing = subst (λ (l : List Record). First-fit passes (h .boards) (h .cycle) (take (h .duties) rs) l (ff .1)) (sym part) law;
+    })

@@ -2,3 +2,4 @@ pub mod Order
 pub mod FirstFit
 pub mod Outcome
 pub mod Scratch
+pub mod Laws

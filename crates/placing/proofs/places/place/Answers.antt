@@ -4,7 +4,7 @@ use Prim.Native.Nat.{_-_}
 use native.Mathlib.Omega.{arith}
 use lib.ListN.{length, take, drop, length-take}
 use Rattle.duty.specs.Heads.{head}
-use Rattle.placing.proofs.Whole.{part-long, no-fault, past-part, answer-is, after-is}
+use Rattle.placing.proofs.Whole.{placed-law, no-fault, past-part, answer-is, after-is}
 use Rattle.placing.proofs.places.place.Needs as need
 
 pub first-fit-requires : need.first-fit-requires
@@ -28,9 +28,12 @@ returns g c =
     let is = c .duties-duties .ensures in
     let fits = c .if-scratch-duties .left in
     let passes = g .G·Gauge .passed (c .args .gauge .now) in
+    let answer = c .first-fit .ensures .answer ∙ answer-is (head h) rs room d good is fits passes _ _ (c .boards .ensures) (c .cycle .ensures) in
+    let after = ap (λ xs. xs ++ drop (d - 0) rs) (c .first-fit .ensures .records) ∙ after-is (head h) rs room d good is fits passes _ _ (c .boards .ensures) (c .cycle .ensures) in
     record {
-      answer = c .first-fit .ensures .answer ∙ answer-is (head h) rs room d good is fits passes _ _ (c .boards .ensures) (c .cycle .ensures);
-      after = ap (λ xs. xs ++ drop (d - 0) rs) (c .first-fit .ensures .records) ∙ after-is (head h) rs room d good is fits passes _ _ (c .boards .ensures) (c .cycle .ensures);
+      answer = answer;
+      after = after;
+      law = placed-law passes (head h) rs _ room _ answer after;
       scratch = past-part (head h) rs room d good is fits _ _ (c .first-fit .ensures .scratch);
       untouched = λ f e. absurd (no-fault (head h) rs room d good is fits f e);
     }
