@@ -1,1 +1,3 @@
 pub mod Chaining
+pub mod Fitting
+pub mod PlansLaw

@@ -4,6 +4,7 @@ ghost use Prim.Native.Nat.{_≤_};
 ghost use lib.ListN.{length};
 ghost use Rattle.std.specs.Vec.{made};
 ghost use Rattle.writer.specs.Written.{length-in, out-in};
+ghost use Rattle.planner.specs.Laws.{Plans};
 ghost use Rattle.planner.specs.Plans.{plan-text, plan-records};
 use duty::Header;
 use duty::Record;
@@ -24,6 +25,7 @@ pub fn plan(
 ) -> Result<usize, Fault>
     ensures answer { λ r. ⌜ r ≡ length-in (plan-text (now (text .entry)) (now (records .entry)) (length (now (scratch .entry))) (length (now (out .entry)))) ⌝ }
     ensures out { λ _. ⌜ now (out .exit) ≡ out-in (plan-text (now (text .entry)) (now (records .entry)) (length (now (scratch .entry))) (length (now (out .entry)))) (now (out .entry)) ⌝ }
+    ensures law { λ r. ⌜ Plans (now (text .entry)) (now (records .entry)) (length (now (scratch .entry))) (now (out .entry)) r (now (out .exit)) ⌝ }
     ensures within { λ r. ⌜ made r (λ n. n ≤ length (now (out .entry))) ⌝ }
     ensures records { λ _. ⌜ now (records .exit) ≡ plan-records (now (text .entry)) (now (records .entry)) (length (now (scratch .entry))) ⌝ }
     ensures scratch { λ _. ⌜ length (now (scratch .exit)) ≡ length (now (scratch .entry)) ⌝ }

@@ -9,6 +9,7 @@ use Rattle.gauge.specs.Letters.{letter-passed}
 use Rattle.placing.specs.Outcome.{place-answer, place-after}
 use Rattle.writer.specs.Written.{write-of, length-in, out-in}
 use Rattle.planner.proofs.Chaining.{none-made, fits-within, unread, unread-text, unread-records, read-records, unplaced-text, placed-text-is}
+use Rattle.planner.proofs.PlansLaw.{plans-law}
 use Rattle.planner.proofs.plan.Needs as need
 
 pub returns-in-Break-header : need.returns-in-Break-header
@@ -21,9 +22,12 @@ returns-in-Break-header c =
     let f = c .in-Break-header .field-0 .0 in
     let told = c .in-Break-header .ensures tt in
     let text = unread-text bs old scratch room f (told .answer) in
+    let answer = p .1 ∙ ap Err (p .2) ∙ sym (ap length-in text) in
+    let out = sym (ap (λ r. out-in r (c .args .out .now)) text) in
     record {
-      answer = p .1 ∙ ap Err (p .2) ∙ sym (ap length-in text);
-      out = sym (ap (λ r. out-in r (c .args .out .now)) text);
+      answer = answer;
+      out = out;
+      law = plans-law bs old scratch (c .args .out .now) _ _ answer out;
       within = none-made (c .from-residual .result) _ _ (p .1);
       records = told .after ∙ ap (λ m. filled m old) (unread bs old scratch room f (told .answer)) ∙ sym (unread-records bs old scratch room f (told .answer));
       scratch = refl;
@@ -43,9 +47,12 @@ returns-in-Break-place c =
     let p = err-from-errBy (c .from-residual-in-Break-place .result) (c .from-residual-in-Break-place .ensures .1) in
     let refused = told .answer ∙ ap (λ l. place-answer (letter-passed l) h rs scratch) letter in
     let text = unplaced-text bs old rs scratch room h (read .answer) (read .after) _ refused in
+    let answer = p .1 ∙ ap Err (p .2) ∙ sym (ap length-in text) in
+    let out = sym (ap (λ r. out-in r (c .args .out .now)) text) in
     record {
-      answer = p .1 ∙ ap Err (p .2) ∙ sym (ap length-in text);
-      out = sym (ap (λ r. out-in r (c .args .out .now)) text);
+      answer = answer;
+      out = out;
+      law = plans-law bs old scratch (c .args .out .now) _ _ answer out;
       within = none-made (c .from-residual-in-Break-place .result) _ _ (p .1);
       records = told .after ∙ ap (λ l. place-after (letter-passed l) h rs scratch) letter ∙ sym (read-records bs old rs scratch room h (read .answer) (read .after));
       scratch = told .scratch .long;
@@ -65,9 +72,12 @@ returns c =
     let after = told .after ∙ ap (λ l. place-after (letter-passed l) h rs scratch) letter in
     let taken = told .answer ∙ ap (λ l. place-answer (letter-passed l) h rs scratch) letter in
     let text = ap (λ xs. write-of Plan h xs room) after ∙ sym (placed-text-is bs old rs scratch room h (read .answer) (read .after) taken) in
+    let answer = c .write-plan .ensures .answer ∙ ap length-in text in
+    let out = c .write-plan .ensures .after ∙ ap (λ r. out-in r (c .args .out .now)) text in
     record {
-      answer = c .write-plan .ensures .answer ∙ ap length-in text;
-      out = c .write-plan .ensures .after ∙ ap (λ r. out-in r (c .args .out .now)) text;
+      answer = answer;
+      out = out;
+      law = plans-law bs old scratch (c .args .out .now) _ _ answer out;
       within = fits-within (write-of Plan h (c .place .last .records) room) (c .args .out .now) (c .write-plan .last .out) (c .write-plan .result) (c .write-plan .ensures .answer) (c .write-plan .ensures .after) (c .write-plan .kept .out);
       records = after ∙ sym (read-records bs old rs scratch room h (read .answer) (read .after));
       scratch = told .scratch .long;
