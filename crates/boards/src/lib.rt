@@ -9,12 +9,6 @@ use duty::Record;
 use duty::Timing;
 use gauge::Gauge;
 
-const NONE: Timing = Timing {
-    cost: 0,
-    deadline: 0,
-    spacing: 0,
-};
-
 // The most duties of a board.
 const MOST: usize = Header::MOST_DUTIES as usize;
 
@@ -40,7 +34,7 @@ fn collect(records: &[Record], board: u8, list: &mut [Timing]) -> Option<usize>
 pub fn board_passes<G: Gauge>(gauge: &G, records: &[Record], board: u8, cycle: u32) -> bool
     ensures { λ r. ⌜ r ≡ board-passed (passed (now (gauge .entry))) (now (records .entry)) board cycle ⌝ }
 {
-    let mut list = [NONE; MOST];
+    let mut list = [Timing::NONE; MOST];
     match collect(records, board, &mut list) {
         Some(n) => gauge.passes(&list[0..n], cycle),
         None => false,

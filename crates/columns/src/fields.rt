@@ -1,5 +1,9 @@
 // Where the fields of a line stand. Columns count from 1.
 
+use duty::Header;
+use duty::LONGEST;
+use duty::Record;
+
 // A number field: its first and last column, and the range of its numbers.
 #[derive(Clone, Copy)]
 pub struct Field {
@@ -16,21 +20,21 @@ pub const BOARDS: Field = Field {
     first: 7,
     last: 9,
     least: 1,
-    most: 16,
+    most: Record::MOST_BOARDS as u32,
 };
 
 pub const DUTIES: Field = Field {
     first: 10,
     last: 12,
     least: 0,
-    most: 64,
+    most: Header::MOST_DUTIES as u32,
 };
 
 pub const CYCLE: Field = Field {
     first: 13,
     last: 20,
     least: 1,
-    most: 1_000_000,
+    most: LONGEST,
 };
 
 pub const HEADER_WIDTH: usize = 20;
@@ -40,26 +44,26 @@ pub const COST: Field = Field {
     first: 9,
     last: 16,
     least: 1,
-    most: 1_000_000,
+    most: LONGEST,
 };
 
 pub const DEADLINE: Field = Field {
     first: 17,
     last: 24,
     least: 1,
-    most: 1_000_000,
+    most: LONGEST,
 };
 
 pub const SPACING: Field = Field {
     first: 25,
     last: 32,
     least: 1,
-    most: 1_000_000,
+    most: LONGEST,
 };
 
 pub const BOARD: Field = Field {
     first: 33,
     last: 35,
     least: 0,
-    most: 16,
+    most: Record::MOST_BOARDS as u32,
 };

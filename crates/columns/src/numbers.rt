@@ -5,14 +5,14 @@ ghost use mathlib.Core.Path.{_≡_};
 ghost use Prim.Native.Nat.{_+_, _^_, _<_, _≤_};
 ghost use lib.ListN.{length, drop};
 ghost use Rattle.std.specs.Written.{decimal};
-ghost use Rattle.columns.specs.Numerals.{further, plain, numeral, number-in, justified, fits-in, Both-ways};
+ghost use Rattle.columns.specs.Numerals.{further, plain, widest, number-in, justified, fits-in, Both-ways};
 
 // The most columns of a number.
 const WIDEST: usize = 9;
 
 // The number that digits write, or none where some byte is no digit.
 fn value(digits: &[u8]) -> Option<u32>
-    requires { ⌜ length (now digits) ≤ 9 ⌝ }
+    requires { ⌜ length (now digits) ≤ widest ⌝ }
     ensures { λ r. ⌜ r ≡ further 0 (now (digits .entry)) ⌝ }
 {
     let mut n: u32 = 0;
@@ -27,7 +27,7 @@ fn value(digits: &[u8]) -> Option<u32>
 
 // The number that digits write, with no zero before further ones.
 fn plain_value(digits: &[u8]) -> Option<u32>
-    requires { ⌜ length (now digits) ≤ 9 ⌝ }
+    requires { ⌜ length (now digits) ≤ widest ⌝ }
     ensures { λ r. ⌜ r ≡ plain (now (digits .entry)) ⌝ }
 {
     match digits {

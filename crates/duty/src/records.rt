@@ -20,6 +20,13 @@ pub struct Record {
 }
 
 impl Record {
+    // A row that holds nothing yet: no duty record.
+    pub const BLANK: Record = Record {
+        name: Name { bytes: [b' '; 8] },
+        timing: Timing::NONE,
+        board: 0,
+    };
+
     // The most boards of a rack.
     pub const MOST_BOARDS: u8 = 16;
 

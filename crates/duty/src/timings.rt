@@ -11,3 +11,12 @@ pub struct Timing {
     pub deadline: u32,
     pub spacing: u32,
 }
+
+impl Timing {
+    // All zero: no duty's timing.
+    pub const NONE: Timing = Timing {
+        cost: 0,
+        deadline: 0,
+        spacing: 0,
+    };
+}

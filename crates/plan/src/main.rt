@@ -4,9 +4,7 @@ ghost use lib.ListN.{length};
 ghost use Rattle.std.specs.Vec.{made};
 use columns::Form;
 use duty::Header;
-use duty::Name;
 use duty::Record;
-use duty::Timing;
 use fault::FaultDisplay;
 use placing::Lined;
 use planner::plan;
@@ -16,16 +14,6 @@ use std::io::Read;
 use std::io::Write;
 
 const DUTIES: usize = Header::MOST_DUTIES as usize;
-
-const BLANK: Record = Record {
-    name: Name { bytes: [b' '; 8] },
-    timing: Timing {
-        cost: 0,
-        deadline: 0,
-        spacing: 0,
-    },
-    board: 0,
-};
 
 // Reads until the buffer is full or the input ends, and answers how many bytes came.
 fn read_up_to(input: &mut impl Read, buffer: &mut [u8]) -> io::Result<usize>
@@ -47,9 +35,9 @@ fn run(rt: &LibcRuntime) -> Result<(), AnyError> {
     let heap = rt.alloc();
     let mut input = vec![in heap; 0u8; Form::Table.longest_text() + 1]?;
     let length = read_up_to(&mut rt.stdin(), input.as_mut_slice())?;
-    let mut records = [BLANK; DUTIES];
+    let mut records = [Record::BLANK; DUTIES];
     let mut scratch = [Lined {
-        record: BLANK,
+        record: Record::BLANK,
         index: 0,
     }; DUTIES];
     let mut out = vec![in heap; 0u8; Form::Plan.longest_text()]?;

@@ -3,7 +3,9 @@ ghost use mathlib.Core.Path.{_≡_};
 ghost use Prim.Native.Nat.{_+_, _<_, _≤_};
 ghost use lib.ListN.{length};
 ghost use Rattle.std.specs.Vec.{made};
+ghost use Rattle.duty.specs.Limits.{name-width};
 ghost use Rattle.columns.specs.Forms.{line-width};
+ghost use Rattle.columns.specs.Layout.{letter-column};
 ghost use Rattle.columns.specs.Lines.{due, number-at, board-at, word-at, letter-at, name-at};
 ghost use Rattle.reader.specs.Views.{rest, parts};
 use super::cursor::Reader;
@@ -107,7 +109,7 @@ impl<'a> Reader<'a> {
 
     // The gauge's letter.
     pub(crate) fn letter(&self) -> Result<Letter, Fault>
-        requires { ⌜ now self .pos + 6 ≤ length (now self .text .now) ⌝ }
+        requires { ⌜ now self .pos + letter-column ≤ length (now self .text .now) ⌝ }
         ensures { λ r. ⌜ r ≡ letter-at (now (self .entry) .line) (rest (now (self .entry))) ⌝ }
     {
         match Letter::from_byte(self.text[self.pos + (LETTER_COLUMN - 1)]) {
@@ -125,7 +127,7 @@ impl<'a> Reader<'a> {
 
     // The name in the first columns, as the part of the text that it is.
     pub(crate) fn name(&self) -> Result<NamePart<'a>, Fault>
-        requires { ⌜ now self .pos + 8 ≤ length (now self .text .now) ⌝ }
+        requires { ⌜ now self .pos + name-width ≤ length (now self .text .now) ⌝ }
         ensures { λ r. ⌜ parts r ≡ name-at (now (self .entry) .pos) (now (self .entry) .line) (rest (now (self .entry))) ⌝ }
     {
         let place = self.pos;

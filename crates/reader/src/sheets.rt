@@ -16,20 +16,12 @@ use columns::Form;
 use duty::Header;
 use duty::Name;
 use duty::Record;
-use duty::Timing;
 use fault::Cause;
 use fault::Fault;
 use fault::Layer;
 
-const BLANK: Record = Record {
-    name: Name { bytes: [b' '; 8] },
-    timing: Timing {
-        cost: 0,
-        deadline: 0,
-        spacing: 0,
-    },
-    board: 0,
-};
+// The most records of a text.
+const MOST: usize = Header::MOST_DUTIES as usize;
 
 impl<'a> Reader<'a> {
     // Reads a duty's line as a record.
@@ -108,7 +100,7 @@ fn read(form: Form, text: &[u8], records: &mut [Record]) -> Result<Header, Fault
     ensures answer { λ r. ⌜ headers r ≡ head-in (sheet-of form (length (now (records .entry))) (now (text .entry))) ⌝ }
     ensures after { λ _. ⌜ now (records .exit) ≡ filled (sheet-of form (length (now (records .entry))) (now (text .entry))) (now (records .entry)) ⌝ }
 {
-    let mut scratch = [BLANK; 64];
+    let mut scratch = [Record::BLANK; MOST];
     Reader::new(text).sheet(form, &mut scratch, records)
 }
 

@@ -28,7 +28,7 @@ use duty::Record;
 
 // Where the next line goes: `pos` is the place of its first byte.
 #[derive(Drop)]
-pub struct Writer<'a> {
+pub(crate) struct Writer<'a> {
     out: &'a mut [u8],
     pos: usize,
 }
