@@ -4,5 +4,4 @@ ghost use Rattle.figures.specs.Figures.{Figures};
 // Nothing to compute: the contract states the figures, and the crate stands only where they hold.
 pub fn worked_figures()
     ensures { λ _. ⌜ Figures ⌝ }
-{
-}
+{}

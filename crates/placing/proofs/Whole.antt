@@ -1,11 +1,13 @@
 -- Placing as a whole: past the checks, the header's records are placed by first-fit.
-use mathlib.Core.Bool.{Bool}
+use mathlib.Core.Bool.{Bool, true}
 use mathlib.Core.List.{List, _++_}
+use mathlib.Core.Logic.{⊎-elim}
 use mathlib.Core.Path.{_≡_, refl, sym, ap, subst, _∙_}
 use Prim.Native.Nat.{ℕ, _-_, _≤_}
 use native.Mathlib.Omega.{arith}
 use lib.Dec.{ltb}
 use lib.ListN.{length, take, drop, length-take}
+use Rattle.std.specs.declared.option.Option.{Option}
 use Rattle.std.specs.declared.result.Result.{Result}
 use Rattle.std.specs.declared.result.Result.the-variants.{Ok, Err}
 use Rattle.std.proofs.shelf.Lists.{length-take-le, take-at}
@@ -14,10 +16,12 @@ use Rattle.fault.specs.declared.Fault.{Fault}
 use Rattle.fault.proofs.Steps.{never, then-ok, then-back, passed-unless}
 use Rattle.duty.specs.declared.records.Record.{Record}
 use Rattle.duty.specs.declared.timings.Timing.{Timing}
+use Rattle.duty.specs.Demand.{demands}
 use Rattle.duty.specs.Heads.{Head}
 use Rattle.columns.specs.Checks.{records-fault}
+use Rattle.boards.specs.Lists.{on-board}
 use Rattle.placing.specs.declared.lined.Lined.{Lined}
-use Rattle.placing.specs.Laws.{First-fit, Placed-law}
+use Rattle.placing.specs.Laws.{First-fit, Placed-law, Within-time}
 use Rattle.placing.specs.Outcome.{place-fault, placed-answer, first-fit, place-answer, placed-by, place-after}
 use Rattle.placing.specs.Scratch.{Past}
 use Rattle.placing.proofs.FirstFitLaw.{first-fit-law, first-fit-long}
@@ -70,3 +74,11 @@ placed-law passes h rs after room r a b e =
       answered = a ∙ then-ok _ e;
       placing = subst (λ (l : List Record). First-fit passes (h .boards) (h .cycle) (take (h .duties) rs) l (ff .1)) (sym part) law;
     })
+
+-- where passing bounds the demand, the placed boards are asked for no more than they can give
+pub within-time : (passes : List Timing → ℕ → Bool) → ((ds : List Timing) (cycle : ℕ) → passes ds cycle ≡ true → (t : ℕ) → demands ds t ≤ t) → (boards cycle : ℕ) (rs fs : List Record) (o : Option ℕ) → First-fit passes boards cycle rs fs o → Within-time boards fs
+within-time passes bounded boards cycle rs fs o law b l h t =
+    ⊎-elim
+    (λ none. subst (λ (ds : List Timing). demands ds t ≤ t) (sym none) (omega arith))
+    (λ ok. bounded (on-board b fs) cycle ok t)
+    (law .none-overfilled b l h)

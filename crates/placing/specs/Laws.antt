@@ -12,6 +12,7 @@ use Rattle.std.specs.declared.result.Result.{Result}
 use Rattle.fault.specs.declared.Fault.{Fault}
 use Rattle.duty.specs.declared.records.Record.{Record}
 use Rattle.duty.specs.declared.timings.Timing.{Timing}
+use Rattle.duty.specs.Demand.{demands}
 use Rattle.heap.specs.Sorted.{Ascending}
 use Rattle.boards.specs.Lists.{on-board, no-record}
 use Rattle.placing.specs.declared.lined.Lined.{Lined}
@@ -42,6 +43,10 @@ pub record First-fit (passes : List Timing → ℕ → Bool) (boards cycle : ℕ
   pub none-overfilled : (b : ℕ) → 1 ≤ b → b ≤ boards → (on-board b fs ≡ []) ⊎ (passes (on-board b fs) cycle ≡ true)
   -- where all were placed, each duty is on a board
   pub all-on-boards : o ≡ None → (k : ℕ) → k < length rs → (1 ≤ getD fs k no-record .board) × (getD fs k no-record .board ≤ boards)
+
+-- no board is asked for more than it can give: for every t, the demand of its list up to t is at most t
+abbrev pub Within-time : ℕ → List Record → Type 0
+Within-time boards rs = (b : ℕ) → 1 ≤ b → b ≤ boards → (t : ℕ) → demands (on-board b rs) t ≤ t
 
 -- what a placing that got past its checks answered and left, of as many records as there are duties
 pub record Placed-law (passes : List Timing → ℕ → Bool) (boards cycle duties : ℕ) (before after : List Record) (answer : Result (Unit {0}) Fault) : Type 0 where

@@ -10,6 +10,14 @@ pub struct Lined {
     pub index: usize,
 }
 
+impl Lined {
+    // An entry that holds nothing yet.
+    pub const UNUSED: Lined = Lined {
+        record: Record::BLANK,
+        index: 0,
+    };
+}
+
 // The smaller deadline leaves first, and of equal ones the lower line.
 pub impl Entry for Lined as LinedEntry {
     ghost key = { lined-key };

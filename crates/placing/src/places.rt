@@ -1,10 +1,10 @@
 // The call that places the duties of a table.
 ghost use mathlib.Core.Path.{_≡_};
-ghost use lib.ListN.{length};
+ghost use lib.ListN.{length, take};
 ghost use Rattle.std.specs.declared.result.Result.the-variants.{Ok, Err};
 ghost use Rattle.duty.specs.Heads.{head};
 ghost use Rattle.fault.specs.declared.Fault.{Fault as Refusal};
-ghost use Rattle.placing.specs.Laws.{Placed-law};
+ghost use Rattle.placing.specs.Laws.{Placed-law, Within-time};
 ghost use Rattle.placing.specs.Outcome.{place-fault, place-answer, place-after};
 ghost use Rattle.placing.specs.Scratch.{Past};
 use super::first_fit::first_fit;
@@ -28,6 +28,7 @@ pub fn place<G: Gauge>(
     ensures answer { λ r. ⌜ r ≡ place-answer (passed (now (gauge .entry))) (head (now (header .entry))) (now (records .entry)) (length (now (scratch .entry))) ⌝ }
     ensures after { λ _. ⌜ now (records .exit) ≡ place-after (passed (now (gauge .entry))) (head (now (header .entry))) (now (records .entry)) (length (now (scratch .entry))) ⌝ }
     ensures law { λ r. ⌜ (place-fault (head (now (header .entry))) (now (records .entry)) (length (now (scratch .entry))) ≡ Ok tt → Placed-law (passed (now (gauge .entry))) (now (header .entry) .boards) (now (header .entry) .cycle) (now (header .entry) .duties) (now (records .entry)) (now (records .exit)) r) ⌝ }
+    ensures bounded { λ _. ⌜ (place-fault (head (now (header .entry))) (now (records .entry)) (length (now (scratch .entry))) ≡ Ok tt → Within-time (now (header .entry) .boards) (take (now (header .entry) .duties) (now (records .exit)))) ⌝ }
     ensures scratch { λ _. ⌜ Past (now (header .entry) .duties) (now (scratch .entry)) (now (scratch .exit)) ⌝ }
     ensures untouched { λ _. ⌜ ((f : Refusal) → place-fault (head (now (header .entry))) (now (records .entry)) (length (now (scratch .entry))) ≡ Err f → now (scratch .exit) ≡ now (scratch .entry)) ⌝ }
 {

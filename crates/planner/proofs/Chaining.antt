@@ -1,9 +1,8 @@
 -- The three steps in a row: from what each answers to what the whole answers.
 use mathlib.Core.List.{List}
 use mathlib.Core.Path.{_≡_, refl, sym, ap, subst, _∙_}
-use Prim.Native.Nat.{ℕ, _≤_}
-use native.Mathlib.Omega.{arith}
-use lib.ListN.{length, drop, length-append, length-drop}
+use Prim.Native.Nat.{ℕ}
+use lib.ListN.{length}
 use Rattle.std.specs.Vec.{made}
 use Rattle.std.specs.declared.result.Result.{Result}
 use Rattle.std.specs.declared.result.Result.the-variants.{Ok, Err}
@@ -15,9 +14,11 @@ use Rattle.duty.specs.Heads.{Head}
 use Rattle.columns.specs.declared.forms.Form.the-variants.{Table, Plan}
 use Rattle.columns.specs.Tables.{Sheet, sheet-of, head-in, filled}
 use Rattle.gauge.specs.Letters.{letter-passed}
+use Rattle.placing.specs.declared.lined.Lined.{Lined}
 use Rattle.placing.specs.Outcome.{place-answer, place-after}
-use Rattle.writer.specs.Written.{write-of, length-in, out-in}
-use Rattle.planner.specs.Plans.{placed-records, plan-text, records-by, plan-records}
+use Rattle.placing.specs.Scratch.{Past}
+use Rattle.writer.specs.Written.{write-of}
+use Rattle.planner.specs.Plans.{plan-text, records-by, plan-records, Scratch-kept}
 
 -- placing, and then writing, once this header was read and the records hold this
 abbrev placed-text : Head → List Record → ℕ → ℕ → Result (List ℕ) Fault
@@ -37,6 +38,9 @@ module _ (bs : List ℕ) (old : List Record) (scratch room : ℕ) (f : Fault) wh
     pub unread-text : plan-text bs old scratch room ≡ Err f
     unread-text = then-err _ unread
 
+    pub unread-scratch : (xs : List Lined) → Scratch-kept (sheet-of Table (length old) bs) xs xs
+    unread-scratch xs = subst (λ m. Scratch-kept m xs xs) (sym unread) refl
+
     pub unread-records : plan-records bs old scratch ≡ old
     unread-records = ap (λ m. records-by m old scratch) unread
 
@@ -44,6 +48,7 @@ module _ (bs : List ℕ) (old : List Record) (scratch room : ℕ) (f : Fault) wh
 module _ (bs : List ℕ) (old rs : List Record) (scratch room : ℕ) (h : Head) where
   record Told : Type 0 where
     text : plan-text bs old scratch room ≡ placed-text h rs scratch room
+    kept : (xs ys : List Lined) → Past (h .duties) xs ys → Scratch-kept (sheet-of Table (length old) bs) xs ys
     records : plan-records bs old scratch ≡ place-after (letter-passed (h .letter)) h rs scratch
 
   by-sheet : (m : Result Sheet Fault) → sheet-of Table (length old) bs ≡ m → Ok h ≡ head-in m → rs ≡ filled m old → Told
@@ -52,6 +57,7 @@ module _ (bs : List ℕ) (old rs : List Record) (scratch room : ℕ) (h : Head) 
       let q : t .head ≡ h = cc in
       record {
         text = then-ok _ e ∙ (λ i. placed-text (q i) (sym b i) scratch room);
+        kept = λ xs ys p. subst (λ m. Scratch-kept m xs ys) (sym e) (subst (λ (x : Head). Past (x .duties) xs ys) (sym q) p);
         records = ap (λ m. records-by m old scratch) e ∙ (λ i. place-after (letter-passed (q i .letter)) (q i) (sym b i) scratch);
       }
 
@@ -62,6 +68,9 @@ module _ (bs : List ℕ) (old rs : List Record) (scratch room : ℕ) (h : Head) 
     pub read-records : plan-records bs old scratch ≡ place-after (letter-passed (h .letter)) h rs scratch
     read-records = told .records
 
+    pub read-scratch : (xs ys : List Lined) → Past (h .duties) xs ys → Scratch-kept (sheet-of Table (length old) bs) xs ys
+    read-scratch = told .kept
+
     pub unplaced-text : (f : Fault) → Err f ≡ place-answer (letter-passed (h .letter)) h rs scratch → plan-text bs old scratch room ≡ Err f
     unplaced-text f e = told .text ∙ then-err _ (sym e)
 
@@ -71,10 +80,3 @@ module _ (bs : List ℕ) (old rs : List Record) (scratch room : ℕ) (h : Head) 
 -- what is said of a good answer holds of a refusal
 pub none-made : (r : Result ℕ Fault) (f : Fault) (P : ℕ → Type 0) → r ≡ Err f → made r P
 none-made r f P e = subst (λ x. made x P) (sym e) tt
-
--- a text that was written lies within the output
-pub fits-within : (m : Result (List ℕ) Fault) (out new : List ℕ) (r : Result ℕ Fault) → r ≡ length-in m → new ≡ out-in m out → length new ≡ length out → made r (λ n. n ≤ length out)
-fits-within (Err f) out new r a b c = none-made r f (λ n. n ≤ length out) a
-fits-within (Ok bs) out new r a b c =
-    let n : length bs ≤ length out = omega (arith, ap length b, length-append bs (drop (length bs) out), length-drop (length bs) out, c) in
-    subst (λ x. made x (λ k. k ≤ length out)) (sym a) n

@@ -24,10 +24,12 @@ use Rattle.columns.specs.Texts.{text, text-length, Valid}
 use Rattle.columns.proofs.LineTrips.{limited}
 use Rattle.columns.proofs.SheetTrips.{one-text}
 use Rattle.gauge.specs.Letters.{letter-passed}
+use Rattle.gauge.proofs.Letters.{letter-bounded}
 use Rattle.boards.specs.Lists.{no-record}
 use Rattle.placing.specs.Laws.{First-fit}
 use Rattle.placing.specs.Outcome.{place-fault, placed-answer, first-fit, place-answer, placed-by, place-after}
 use Rattle.placing.proofs.FirstFitLaw.{first-fit-law, first-fit-long}
+use Rattle.placing.proofs.Whole.{within-time}
 use Rattle.writer.specs.Written.{write-of, length-in, out-in}
 use Rattle.planner.specs.Laws.{with-rows, Put-out, Planned, Plans}
 use Rattle.planner.specs.Plans.{plan-text}
@@ -94,7 +96,7 @@ module _ (t : Sheet) (more : List Record) (scratch room : ℕ) (valid : Valid Ta
       (a ∙ ap length-in whole, b ∙ ap (λ m. out-in m out) whole)
 
   planned : (out : List ℕ) (r : Result ℕ Fault) (after : List ℕ) → r ≡ length-in steps → after ≡ out-in steps out → Planned t out r after
-  planned out r after a b = record { rows = ff .0; unplaced = ff .1; placing = law; put-out = put-out out r after (ff .1) refl a b }
+  planned out r after a b = record { rows = ff .0; unplaced = ff .1; placing = law; within-time = within-time (letter-passed (t .head .letter)) (letter-bounded (t .head .letter)) _ _ _ _ _ law; put-out = put-out out r after (ff .1) refl a b }
 
 pub plans-law : (bs : List ℕ) (old : List Record) (scratch : ℕ) (out : List ℕ) (r : Result ℕ Fault) (after : List ℕ) → r ≡ length-in (plan-text bs old scratch (length out)) → after ≡ out-in (plan-text bs old scratch (length out)) out → Plans bs old scratch out r after
 plans-law bs old scratch out r after a b = record {

@@ -18,7 +18,7 @@ use Rattle.columns.specs.Laws.{Reads-as}
 use Rattle.columns.specs.Tables.{Sheet, sheet-of}
 use Rattle.columns.specs.Texts.{text, text-length}
 use Rattle.gauge.specs.Letters.{letter-passed}
-use Rattle.placing.specs.Laws.{First-fit}
+use Rattle.placing.specs.Laws.{First-fit, Within-time}
 
 -- the sheet of a table whose records are these now
 abbrev pub with-rows : Sheet → List Record → Sheet
@@ -34,6 +34,8 @@ pub record Planned (t : Sheet) (out : List ℕ) (r : Result ℕ Fault) (after : 
   pub rows : List Record
   pub unplaced : Option ℕ
   pub placing : First-fit (letter-passed (t .head .letter)) (t .head .boards) (t .head .cycle) (t .rows) rows unplaced
+  -- whether or not all were placed, no board is asked for more than it can give
+  pub within-time : Within-time (t .head .boards) rows
   pub put-out : Put-out unplaced (text Plan (with-rows t rows)) out r after
 
 pub record Plans (bs : List ℕ) (old : List Record) (scratch : ℕ) (out : List ℕ) (r : Result ℕ Fault) (after : List ℕ) : Type 0 where

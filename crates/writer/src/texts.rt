@@ -34,6 +34,7 @@ fn fill(form: Form, header: &Header, records: &[Record], out: &mut [u8])
 fn write(form: Form, header: &Header, records: &[Record], out: &mut [u8]) -> Result<usize, Fault>
     ensures answer { λ r. ⌜ r ≡ length-in (write-of form (head (now (header .entry))) (now (records .entry)) (length (now (out .entry)))) ⌝ }
     ensures after { λ _. ⌜ now (out .exit) ≡ out-in (write-of form (head (now (header .entry))) (now (records .entry)) (length (now (out .entry)))) (now (out .entry)) ⌝ }
+    ensures within { λ r. ⌜ made r (λ n. n ≤ length (now (out .entry))) ⌝ }
     ensures back { λ r. ⌜ made r (λ n. Reads-back form (head (now (header .entry))) (now (records .entry)) (take n (now (out .exit)))) ⌝ }
 {
     check_records(header, records)?;
@@ -56,6 +57,7 @@ fn write(form: Form, header: &Header, records: &[Record], out: &mut [u8]) -> Res
 pub fn write_table(header: &Header, records: &[Record], out: &mut [u8]) -> Result<usize, Fault>
     ensures answer { λ r. ⌜ r ≡ length-in (write-of Table (head (now (header .entry))) (now (records .entry)) (length (now (out .entry)))) ⌝ }
     ensures after { λ _. ⌜ now (out .exit) ≡ out-in (write-of Table (head (now (header .entry))) (now (records .entry)) (length (now (out .entry)))) (now (out .entry)) ⌝ }
+    ensures within { λ r. ⌜ made r (λ n. n ≤ length (now (out .entry))) ⌝ }
     ensures back { λ r. ⌜ made r (λ n. Reads-back Table (head (now (header .entry))) (now (records .entry)) (take n (now (out .exit)))) ⌝ }
 {
     write(Form::Table, header, records, out)
@@ -66,6 +68,7 @@ pub fn write_table(header: &Header, records: &[Record], out: &mut [u8]) -> Resul
 pub fn write_plan(header: &Header, records: &[Record], out: &mut [u8]) -> Result<usize, Fault>
     ensures answer { λ r. ⌜ r ≡ length-in (write-of Plan (head (now (header .entry))) (now (records .entry)) (length (now (out .entry)))) ⌝ }
     ensures after { λ _. ⌜ now (out .exit) ≡ out-in (write-of Plan (head (now (header .entry))) (now (records .entry)) (length (now (out .entry)))) (now (out .entry)) ⌝ }
+    ensures within { λ r. ⌜ made r (λ n. n ≤ length (now (out .entry))) ⌝ }
     ensures back { λ r. ⌜ made r (λ n. Reads-back Plan (head (now (header .entry))) (now (records .entry)) (take n (now (out .exit)))) ⌝ }
 {
     write(Form::Plan, header, records, out)

@@ -1,4 +1,4 @@
-use mathlib.Core.Path.{_≡_, refl, sym, ap, _∙_}
+use mathlib.Core.Path.{_≡_, sym, ap, _∙_}
 use lib.ListN.{length}
 use Rattle.std.specs.declared.result.Result.the-variants.{Err}
 use Rattle.std.proofs.shelf.Results.{err-from-errBy}
@@ -8,7 +8,7 @@ use Rattle.columns.specs.Tables.{filled}
 use Rattle.gauge.specs.Letters.{letter-passed}
 use Rattle.placing.specs.Outcome.{place-answer, place-after}
 use Rattle.writer.specs.Written.{write-of, length-in, out-in}
-use Rattle.planner.proofs.Chaining.{none-made, fits-within, unread, unread-text, unread-records, read-records, unplaced-text, placed-text-is}
+use Rattle.planner.proofs.Chaining.{none-made, unread-scratch, read-scratch, unread, unread-text, unread-records, read-records, unplaced-text, placed-text-is}
 use Rattle.planner.proofs.PlansLaw.{plans-law}
 use Rattle.planner.proofs.plan.Needs as need
 
@@ -30,7 +30,7 @@ returns-in-Break-header c =
       law = plans-law bs old scratch (c .args .out .now) _ _ answer out;
       within = none-made (c .from-residual .result) _ _ (p .1);
       records = told .after ∙ ap (λ m. filled m old) (unread bs old scratch room f (told .answer)) ∙ sym (unread-records bs old scratch room f (told .answer));
-      scratch = refl;
+      scratch = unread-scratch bs old scratch room f (told .answer) (c .args .scratch .now);
     }
 
 pub returns-in-Break-place : need.returns-in-Break-place
@@ -55,7 +55,7 @@ returns-in-Break-place c =
       law = plans-law bs old scratch (c .args .out .now) _ _ answer out;
       within = none-made (c .from-residual-in-Break-place .result) _ _ (p .1);
       records = told .after ∙ ap (λ l. place-after (letter-passed l) h rs scratch) letter ∙ sym (read-records bs old rs scratch room h (read .answer) (read .after));
-      scratch = told .scratch .long;
+      scratch = read-scratch bs old rs scratch room h (read .answer) (read .after) _ _ (told .scratch);
     }
 
 pub returns : need.returns
@@ -78,7 +78,7 @@ returns c =
       answer = answer;
       out = out;
       law = plans-law bs old scratch (c .args .out .now) _ _ answer out;
-      within = fits-within (write-of Plan h (c .place .last .records) room) (c .args .out .now) (c .write-plan .last .out) (c .write-plan .result) (c .write-plan .ensures .answer) (c .write-plan .ensures .after) (c .write-plan .kept .out);
+      within = c .write-plan .ensures .within;
       records = after ∙ sym (read-records bs old rs scratch room h (read .answer) (read .after));
-      scratch = told .scratch .long;
+      scratch = read-scratch bs old rs scratch room h (read .answer) (read .after) _ _ (told .scratch);
     }

@@ -4,7 +4,7 @@ use Prim.Native.Nat.{_-_}
 use native.Mathlib.Omega.{arith}
 use lib.ListN.{length, take, drop, length-take}
 use Rattle.duty.specs.Heads.{head}
-use Rattle.placing.proofs.Whole.{placed-law, no-fault, past-part, answer-is, after-is}
+use Rattle.placing.proofs.Whole.{placed-law, within-time, no-fault, past-part, answer-is, after-is}
 use Rattle.placing.proofs.places.place.Needs as need
 
 pub first-fit-requires : need.first-fit-requires
@@ -34,6 +34,7 @@ returns g c =
       answer = answer;
       after = after;
       law = placed-law passes (head h) rs _ room _ answer after;
+      bounded = λ e. within-time passes (g .G·Gauge·met .bounded (c .args .gauge .now)) _ _ _ _ _ (placed-law passes (head h) rs _ room _ answer after e .placing);
       scratch = past-part (head h) rs room d good is fits _ _ (c .first-fit .ensures .scratch);
       untouched = λ f e. absurd (no-fault (head h) rs room d good is fits f e);
     }

@@ -51,5 +51,6 @@ returns c =
     record {
       answer = ap Ok (sym full) ∙ sym (ap length-in e);
       after = value ∙ sym (ap (λ r. out-in r out) e);
+      within = omega arith;
       back = text-back form h rs limits ok (subst (All Sized) rows (c .fill .ensures .sized)) (take n (c .fill .last .out)) (ap (take n) value ∙ take-at whole-text _ n full);
     }
