@@ -32,6 +32,8 @@ pub enum Cause {
     TrailingBytes,
     // No board takes this duty.
     NoBoardFits,
+    // There is no such place.
+    NoSuchPlace,
 }
 
 // The layer that found the fault.
@@ -71,6 +73,7 @@ impl Cause {
             Cause::MissingLine => 40,
             Cause::TrailingBytes => 40,
             Cause::NoBoardFits => 50,
+            Cause::NoSuchPlace => 70,
         }
     }
 }
