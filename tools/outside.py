@@ -160,7 +160,7 @@ def border_cases(rng, how_many, cycles, most, least_spacing=1):
 
 
 def bad_cases(rng):
-    """Lists that every gauge refuses, each beside the fair one that it was made from."""
+    """Fair lists, and each with a row or the cycle changed, which mostly makes it unfair."""
     for _ in range(60):
         cycle = rng.choice(SMALL + MIDDLE + LARGE)
         rows = random_rows(rng, cycle, rng.randint(1, 5), 0.2, min(cycle, 12))
@@ -177,7 +177,7 @@ def bad_cases(rng):
                 yield rows, other
 
 
-def limit_cases(rng):
+def limit_cases():
     """Lists at the limits of length, cycle and cost."""
     for cycle in (0, 1, 2, 999999, 1000000, 1000001, 4294967295):
         yield [], cycle
@@ -202,7 +202,7 @@ def limit_cases(rng):
 
 
 def gauge_cases(rng):
-    yield from limit_cases(rng)
+    yield from limit_cases()
     yield from bad_cases(rng)
     yield from border_cases(rng, 1300, SMALL, 6)
     yield from border_cases(rng, 260, MIDDLE, 10)
