@@ -1,3 +1,3 @@
 pub mod Prefixes
 pub mod Stems
-pub mod Misfits
+pub mod Failing

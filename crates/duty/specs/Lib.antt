@@ -2,6 +2,7 @@ pub mod Limits
 pub mod Letters
 pub mod Timely
 pub mod Names
+pub mod Firsts
 pub mod Records
 pub mod Heads
 pub mod Sums

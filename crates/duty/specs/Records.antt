@@ -1,7 +1,7 @@
 -- Which rows are duty records.
 use mathlib.Core.Bool.{Bool, _&&_, cond}
-use mathlib.Core.List.{List, [], _∷_}
-use Prim.Native.Nat.{ℕ, suc, _+_, _%_}
+use mathlib.Core.List.{List}
+use Prim.Native.Nat.{ℕ, _%_}
 use lib.Dec.{eqb, leb}
 use Rattle.std.specs.Options.{mapped}
 use Rattle.std.specs.declared.option.Option.{Option}
@@ -9,6 +9,7 @@ use Rattle.std.specs.declared.option.Option.the-variants.{Some, None}
 use Rattle.duty.specs.declared.timings.Timing.{Timing}
 use Rattle.duty.specs.declared.records.Record.{Record}
 use Rattle.duty.specs.declared.duties.Duty.{Duty}
+use Rattle.duty.specs.Firsts.{first-failing}
 use Rattle.duty.specs.Limits.{most-boards}
 use Rattle.duty.specs.Names.{named}
 use Rattle.duty.specs.Timely.{timely}
@@ -31,5 +32,4 @@ timings o = mapped (λ d. d .timing) o
 
 -- the place of the first row that is no duty record of the cycle
 abbrev pub first-misfit : ℕ → List Record → Option ℕ
-first-misfit cycle [] = None
-first-misfit cycle (r ∷ rs) = cond (in-cycle cycle r) (mapped (λ i. i + 1) (first-misfit cycle rs)) (Some 0)
+first-misfit cycle rs = first-failing (in-cycle cycle) rs

@@ -32,6 +32,10 @@ pub enum Cause {
     TrailingBytes,
     // No board takes this duty.
     NoBoardFits,
+    // A board number that is 0 or above the header's.
+    NoSuchBoard,
+    // A board whose list does not pass the gauge.
+    Overfull,
     // There is no such place.
     NoSuchPlace,
 }
@@ -73,6 +77,8 @@ impl Cause {
             Cause::MissingLine => 40,
             Cause::TrailingBytes => 40,
             Cause::NoBoardFits => 50,
+            Cause::NoSuchBoard => 51,
+            Cause::Overfull => 52,
             Cause::NoSuchPlace => 70,
         }
     }

@@ -1,3 +1,4 @@
 pub mod Chaining
+pub mod Checking
 pub mod Fitting
 pub mod PlansLaw

@@ -17,8 +17,11 @@ use placing::place;
 use reader::read_table;
 use writer::write_plan;
 
+mod checks;
 #[cfg(test)]
 mod tests;
+
+pub use checks::check;
 
 // Reads the table, places its duties by first-fit under the header's gauge, and writes the plan.
 // Answers the length of the plan's text, or the first fault; a fault leaves the output as it was.

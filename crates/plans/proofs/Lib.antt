@@ -1,0 +1,3 @@
+pub mod Overfilling
+pub mod Passing
+pub mod Deciding
