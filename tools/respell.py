@@ -16,7 +16,7 @@ import sys
 
 WORD = r"[A-Za-z_][A-Za-z0-9_']*"
 DASHED = re.compile(rf"(?<![\w'◌-])({WORD}(?:-[A-Za-z0-9_']+)+)(?![\w'-])")
-DECLARED = re.compile(rf"^\s*(?:(?:pub|abbrev|unfoldable|record|data|let)\s+)*({WORD}(?:-[A-Za-z0-9_']+)*)\s*(?::|[({{]|$|where\b)")
+DECLARED = re.compile(rf"^\s*(?:(?:pub|abbrev|unfoldable)\s+)*(?:({WORD}(?:-[A-Za-z0-9_']+)*)\s+:\s|(?:pub\s+)?(?:record|data)\s+({WORD}(?:-[A-Za-z0-9_']+)*))")
 LET = re.compile(rf"\blet\s+({WORD}(?:-[A-Za-z0-9_']+)+)(?=\s*[:=])")
 QUOTED = re.compile(r'"(?:[^"\\]|\\.)*"')
 GOALS = ("Answers.antt", "Invariants.antt", "Proof.antt")
@@ -57,7 +57,8 @@ def declared(paths):
             text = code(line, "--")[0]
             found = DECLARED.match(text)
             if found and not (goals and re.search(r":\s*goal\.", text)):
-                (names if "-" in found.group(1) else plain).add(found.group(1))
+                name = found.group(1) or found.group(2)
+                (names if "-" in name else plain).add(name)
             names.update(LET.findall(text))
     return names, plain
 

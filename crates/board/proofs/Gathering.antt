@@ -4,7 +4,7 @@ use lib.ListN.{length-map}
 use Rattle.std.specs.List.{AllByRecursion as All}
 use Rattle.std.proofs.ByRecursion.{All-from_get_or}
 use Rattle.std.proofs.lemmas.List.{at_drop_all, map-set, get_or-take}
-use Rattle.std.proofs.lemmas.Bool.{cond_true, cond_false, cond_both, cases_lt, and_parts, and_from, ne_eqb, le-leb}
+use Rattle.std.proofs.lemmas.Bool.{cond-true, cond-false, cond_both, cases_lt, and_parts, and_from, ne_eqb, le-leb}
 use Rattle.fault.specs.declared.Fault.{Fault}
 use Rattle.fault.proofs.Steps.{never}
 use Rattle.duty.specs.declared.duties.Duty.{Duty}
@@ -23,12 +23,12 @@ use Rattle.board.specs.Loads.{load_fault}
 
 -- the duty of a duty record has its timing
 same_timing : (d : Duty) (r : Record) → duty_record r ≡ true → Some d.timing ≡ duty_of r → d.timing ≡ r.timing
-same_timing d r ok e = let f : Some d.timing ≡ Some r.timing = e ∙ cond_true _ _ _ ok in cc
+same_timing d r ok e = let f : Some d.timing ≡ Some r.timing = e ∙ cond-true _ _ _ ok in cc
 
 -- and there is one
 pub some_duty : (r : Record) → duty_record r ≡ true → ◌≡◌ {A = Option Timing} None (duty_of r) → ⊥
 some_duty r ok e =
-    let f : ◌≡◌ {A = Option Timing} None (Some r.timing) = e ∙ cond_true _ _ _ ok in
+    let f : ◌≡◌ {A = Option Timing} None (Some r.timing) = e ∙ cond-true _ _ _ ok in
     let z : ◌≡◌ {A = ℕ} 0 1 = cc in
     omega arith
 
@@ -77,7 +77,7 @@ few_on b n rs h = omega (arith, length_on_board b (take n rs), length-take n rs)
 -- no record has this board
 none_on : (b : ℕ) (rs : List Record) → ((k : ℕ) → k < length rs → (get_or rs k no_record).board ≡ b → ⊥) → on_board b rs ≡ []
 none_on b [] h = refl
-none_on b (r ∷ rs) h = cond_false _ _ _ (ne_eqb r.board b (h 0 (omega arith))) ∙ none_on b rs (λ k l. h (suc k) (omega arith))
+none_on b (r ∷ rs) h = cond-false _ _ _ (ne_eqb r.board b (h 0 (omega arith))) ∙ none_on b rs (λ k l. h (suc k) (omega arith))
 
 module _ (number boards n : ℕ) (rs : List Record) (placed : (k : ℕ) → k < n → 1 ≤ (get_or rs k no_record).board) (known : (k : ℕ) → k < n → (get_or rs k no_record).board ≤ boards) where
   -- a number that is none of the plan's boards
@@ -90,7 +90,7 @@ module _ (number boards n : ℕ) (rs : List Record) (placed : (k : ℕ) → k < 
 
   pub unknown_empty : (f : Fault) → load_fault number boards ≡ Err f → on_board number (take n rs) ≡ []
   unknown_empty f e =
-      outside (λ in'. never (sym e ∙ cond_true _ _ _ (and_from _ _ (le-leb 1 number in'.0) (le-leb number boards in'.1))))
+      outside (λ in'. never (sym e ∙ cond-true _ _ _ (and_from _ _ (le-leb 1 number in'.0) (le-leb number boards in'.1))))
 
   -- whatever the number is, the demand of its list is bounded
   pub any_bounded : ((b t : ℕ) → 1 ≤ b → b ≤ boards → demands (on_board b (take n rs)) t ≤ t) → (t : ℕ) → demands (on_board number (take n rs)) t ≤ t

@@ -1,7 +1,7 @@
 -- A queue is settled at the place that a call concerned, and so stays in step.
 use Rattle.std.proofs.Common.{◌≡◌, ℕ, ◌+◌, Bool, true, false, cond, ltb, List, set, Some, None, Option, sym, refl, ap, ◌∙◌, subst, arith}
 use Rattle.std.specs.List.{slice_get}
-use Rattle.std.proofs.lemmas.Bool.{cond_both, cond_true}
+use Rattle.std.proofs.lemmas.Bool.{cond_both, cond-true}
 use Rattle.fault.specs.declared.Cause.TheVariants.{ClockFull}
 use Rattle.queue.specs.First.{earliest, Foremost}
 use Rattle.queue.specs.Places.{places as width}
@@ -85,7 +85,7 @@ module _ {Q : Type 0} (held : Q → List (Option ℕ)) (before later : RunningBo
       let d' : due ≡ due_at (slice_get o.board.places p) = d ∙ ap (λ (x : Board). due_at (slice_get x.places p)) same in
       let ok' : accepted o.answer ≡ true = ap accepted (sym a) ∙ ok in
       let now : held later.queue ≡ held_after (held before.queue) (Some p) o =
-      q ∙ ap (set (held before.queue) p) d' ∙ sym (cond_true (accepted o.answer) _ _ ok') in
+      q ∙ ap (set (held before.queue) p) d' ∙ sym (cond-true (accepted o.answer) _ _ ok') in
       record {
         answer_is = a;
         board_is = same;

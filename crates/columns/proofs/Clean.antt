@@ -3,7 +3,7 @@ use Rattle.std.proofs.Common.{◌≡◌, ℕ, zero, suc, ◌+◌, ◌-◌, ◌^�
 use Rattle.std.specs.Str.{all_ascii_digits}
 use Rattle.std.proofs.lemmas.Fmt.{digits_decimal}
 use Rattle.std.proofs.lemmas.Str.Parse.{numerals_by_value, tells_all_ascii_digits}
-use Rattle.std.proofs.lemmas.Bool.{cases_Bool, cond_true, cond_false, cond_both, and_from, and_parts, or_cases, leb-true, eqb-true, ne_eqb}
+use Rattle.std.proofs.lemmas.Bool.{cases_Bool, cond-true, cond-false, cond_both, and_from, and_parts, or_cases, leb-true, eqb-true, ne_eqb}
 use Rattle.duty.specs.Names.{name_byte, tail_byte, blanks_in, tail_in, name_in}
 use Rattle.columns.specs.Lines.{newline, ends}
 use Rattle.columns.specs.Numerals.{justified}
@@ -66,9 +66,9 @@ clean_rest (b ∷ bs) h =
     ⊎_elim
     (λ e.
     let z = eqb-true b 32 e in
-    let k : suc (blanks_in bs) ≡ length (b ∷ bs) = sym (cond_true (eqb b 32) _ _ e) ∙ h in
+    let k : suc (blanks_in bs) ≡ length (b ∷ bs) = sym (cond-true (eqb b 32) _ _ e) ∙ h in
     and_from _ _ (other b (λ f. omega arith)) (clean_rest bs (omega arith)))
-    (λ e. let k : 0 ≡ length (b ∷ bs) = sym (cond_false (eqb b 32) _ _ e) ∙ h in absurd (omega arith))
+    (λ e. let k : 0 ≡ length (b ∷ bs) = sym (cond-false (eqb b 32) _ _ e) ∙ h in absurd (omega arith))
     (cases_Bool (eqb b 32))
 
 clean_tail : (bs : List ℕ) → tail_in bs ≡ length bs → clean bs ≡ true
@@ -76,9 +76,9 @@ clean_tail [] h = refl
 clean_tail (b ∷ bs) h =
     ⊎_elim
     (λ e.
-    let k : suc (tail_in bs) ≡ length (b ∷ bs) = sym (cond_true (tail_byte b) _ _ e) ∙ h in
+    let k : suc (tail_in bs) ≡ length (b ∷ bs) = sym (cond-true (tail_byte b) _ _ e) ∙ h in
     and_from _ _ (other b (tail_byte_other b e)) (clean_tail bs (omega arith)))
-    (λ e. clean_rest (b ∷ bs) (sym (cond_false (tail_byte b) _ _ e) ∙ h))
+    (λ e. clean_rest (b ∷ bs) (sym (cond-false (tail_byte b) _ _ e) ∙ h))
     (cases_Bool (tail_byte b))
 
 pub clean_name : (bs : List ℕ) → name_in bs ≡ length bs → clean bs ≡ true
@@ -86,9 +86,9 @@ clean_name [] h = refl
 clean_name (b ∷ bs) h =
     ⊎_elim
     (λ e.
-    let k : suc (tail_in bs) ≡ length (b ∷ bs) = sym (cond_true (name_byte b) _ _ e) ∙ h in
+    let k : suc (tail_in bs) ≡ length (b ∷ bs) = sym (cond-true (name_byte b) _ _ e) ∙ h in
     and_from _ _ (other b (name_byte_other b e)) (clean_tail bs (omega arith)))
-    (λ e. let k : 0 ≡ length (b ∷ bs) = sym (cond_false (name_byte b) _ _ e) ∙ h in absurd (omega arith))
+    (λ e. let k : 0 ≡ length (b ∷ bs) = sym (cond-false (name_byte b) _ _ e) ∙ h in absurd (omega arith))
     (cases_Bool (name_byte b))
 
 -- no more bytes are counted than there are

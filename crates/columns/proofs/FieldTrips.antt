@@ -1,7 +1,7 @@
 -- Each field of a line: what its columns hold where it is read, and that it is read where they hold it.
 use Rattle.std.proofs.Common.{◌≡◌, ℕ, zero, suc, ◌+◌, ◌-◌, ◌^◌, ◌<◌, ◌≤◌, Bool, true, false, cond, ◌&&◌, eqb, ltb, leb, List, [], ◌∷◌, ◌++◌, length, get_or, take, drop, Some, None, Ok, Err, Option, Result, sym, refl, ap, ◌∙◌, ⊎_elim, arith, length-drop, length-take}
 use Rattle.std.proofs.lemmas.List.{length-take-le}
-use Rattle.std.proofs.lemmas.Bool.{cases_Bool, cond_true, cond_false, and_from, and_parts, eqb-true, eq-eqb, ne_eqb, ltb-false, le-ltb, leb-true, le-leb}
+use Rattle.std.proofs.lemmas.Bool.{cases_Bool, cond-true, cond-false, and_from, and_parts, eqb-true, eq-eqb, ne_eqb, ltb-false, le-ltb, leb-true, le-leb}
 use Rattle.fault.proofs.Steps.{never, passed_unless, passed_where}
 use Rattle.duty.specs.declared.letters.Letter.{Letter}
 use Rattle.duty.specs.declared.letters.Letter.TheVariants.{Density, Slope, Exact}
@@ -22,7 +22,7 @@ due_only w line bs e = (passed_where (ends w bs) (Ok tt) _ tt (passed_unless (eq
 pub due_back : (w line : ℕ) (bs : List ℕ) → ends w bs ≡ true → due w line bs ≡ Ok tt
 due_back w line bs e =
     let long = ends_long w bs e in
-    cond_false (eqb (length bs) 0) _ _ (ne_eqb (length bs) 0 (λ z. omega arith)) ∙ cond_true (ends w bs) _ _ e
+    cond-false (eqb (length bs) 0) _ _ (ne_eqb (length bs) 0 (λ z. omega arith)) ∙ cond-true (ends w bs) _ _ e
 
 -- a number
 
@@ -68,7 +68,7 @@ number_at_back f line bs n ok small r e =
     let s = sane_facts f ok in
     ap (λ cs. in_range f line (number_in cs)) e
     ∙ ap (in_range f line) (number_back (width f) n (omega arith) (omega arith) small)
-    ∙ cond_true (leb f.least n && leb n f.most) _ _ (and_from _ _ (le-leb _ _ r.low) (le-leb _ _ r.high))
+    ∙ cond-true (leb f.least n && leb n f.most) _ _ (and_from _ _ (le-leb _ _ r.low) (le-leb _ _ r.high))
 
 -- the word of a header
 
@@ -78,17 +78,17 @@ matched_le (w ∷ ws) [] h = absurd (omega arith)
 matched_le (w ∷ ws) (b ∷ bs) h =
     ⊎_elim
     (λ e.
-    let s = cond_true (eqb b w) (suc (matched ws bs)) 0 e in
+    let s = cond-true (eqb b w) (suc (matched ws bs)) 0 e in
     let same : b ≡ w = eqb-true b w e in
     let more = matched_le ws bs (omega arith) in
     cc)
-    (λ e. let s = cond_false (eqb b w) (suc (matched ws bs)) 0 e in absurd (omega arith))
+    (λ e. let s = cond-false (eqb b w) (suc (matched ws bs)) 0 e in absurd (omega arith))
     (cases_Bool (eqb b w))
 
 matched_self : (ws bs : List ℕ) → length ws ≤ matched ws (ws ++ bs)
 matched_self [] bs = omega arith
 matched_self (w ∷ ws) bs =
-    let s = cond_true (eqb w w) (suc (matched ws (ws ++ bs))) 0 (eq-eqb w w refl) in
+    let s = cond-true (eqb w w) (suc (matched ws (ws ++ bs))) 0 (eq-eqb w w refl) in
     let more = matched_self ws bs in
     omega arith
 
@@ -98,7 +98,7 @@ word_at_only ws line bs e =
 
 pub word_at_back : (ws : List ℕ) (line : ℕ) (bs : List ℕ) → word_at ws line (ws ++ bs) ≡ Ok tt
 word_at_back ws line bs =
-    cond_false (ltb (matched ws (ws ++ bs)) (length ws)) _ _ (le-ltb _ _ (matched_self ws bs))
+    cond-false (ltb (matched ws (ws ++ bs)) (length ws)) _ _ (le-ltb _ _ (matched_self ws bs))
 
 -- the letter of a header
 
@@ -106,22 +106,22 @@ letter_of_only : (b : ℕ) (l : Letter) → letter_of b ≡ Some l → b ≡ let
 letter_of_only b l e =
     ⊎_elim
     (λ d.
-    let is : Density ≡ l = let s = cond_true (eqb b 68) (Some Density) (cond (eqb b 83) (Some Slope) (cond (eqb b 69) (Some Exact) None)) d in cc in
+    let is : Density ≡ l = let s = cond-true (eqb b 68) (Some Density) (cond (eqb b 83) (Some Slope) (cond (eqb b 69) (Some Exact) None)) d in cc in
     eqb-true b 68 d ∙ ap letter_byte is)
     (λ nd.
-    let past_d = sym (cond_false (eqb b 68) (Some Density) (cond (eqb b 83) (Some Slope) (cond (eqb b 69) (Some Exact) None)) nd) ∙ e in
+    let past_d = sym (cond-false (eqb b 68) (Some Density) (cond (eqb b 83) (Some Slope) (cond (eqb b 69) (Some Exact) None)) nd) ∙ e in
     ⊎_elim
     (λ s.
-    let is : Slope ≡ l = let k = cond_true (eqb b 83) (Some Slope) (cond (eqb b 69) (Some Exact) None) s in cc in
+    let is : Slope ≡ l = let k = cond-true (eqb b 83) (Some Slope) (cond (eqb b 69) (Some Exact) None) s in cc in
     eqb-true b 83 s ∙ ap letter_byte is)
     (λ ns.
-    let past_s = sym (cond_false (eqb b 83) (Some Slope) (cond (eqb b 69) (Some Exact) None) ns) ∙ past_d in
+    let past_s = sym (cond-false (eqb b 83) (Some Slope) (cond (eqb b 69) (Some Exact) None) ns) ∙ past_d in
     ⊎_elim
     (λ x.
-    let is : Exact ≡ l = let k = cond_true (eqb b 69) (Some Exact) None x in cc in
+    let is : Exact ≡ l = let k = cond-true (eqb b 69) (Some Exact) None x in cc in
     eqb-true b 69 x ∙ ap letter_byte is)
     (λ nx.
-    let none : None ≡ Some l = sym (cond_false (eqb b 69) (Some Exact) None nx) ∙ past_s in
+    let none : None ≡ Some l = sym (cond-false (eqb b 69) (Some Exact) None nx) ∙ past_s in
     let z : ◌≡◌ {A = ℕ} 0 1 = cc in
     absurd (omega arith))
     (cases_Bool (eqb b 69)))
@@ -175,5 +175,5 @@ name_at_only place line bs p room e =
 pub name_at_back : (place line : ℕ) (bs name : List ℕ) → take 8 bs ≡ name → name_in name ≡ 8 → name_at place line bs ≡ Ok (record { bytes = name; place = place })
 name_at_back place line bs name e good =
     let enough : 8 ≤ name_in (take 8 bs) = omega (arith, ap name_in e, good) in
-    cond_false (ltb (name_in (take 8 bs)) 8) _ _ (le-ltb _ 8 enough)
+    cond-false (ltb (name_in (take 8 bs)) 8) _ _ (le-ltb _ 8 enough)
     ∙ ap (λ (l : List ℕ). Ok (record { bytes = l; place = place })) e

@@ -1,7 +1,7 @@
 -- A line is read just where it is the text of a header or a record within the limits.
 use Rattle.std.proofs.Common.{◌≡◌, ℕ, ◌+◌, ◌-◌, ◌%◌, ◌^◌, ◌<◌, ◌≤◌, Bool, true, false, cond, ◌&&◌, ◌||◌, eqb, ltb, leb, List, [], ◌∷◌, ◌++◌, length, take, drop, Ok, Err, Result, sym, refl, ap, ◌∙◌, subst, arith}
 use Rattle.std.proofs.lemmas.List.{take-append-drop}
-use Rattle.std.proofs.lemmas.Bool.{cond_true, cond_false, and_from, and_parts, or_parts, or_from, eqb-true, eq-eqb, ltb-false, le-ltb, leb-true, le-leb}
+use Rattle.std.proofs.lemmas.Bool.{cond-true, cond-false, and_from, and_parts, or_parts, or_from, eqb-true, eq-eqb, ltb-false, le-ltb, leb-true, le-leb}
 use Rattle.fault.proofs.Steps.{then_ok, then_back, passed_unless, passed_where}
 use Rattle.duty.specs.declared.letters.Letter.{Letter}
 use Rattle.duty.specs.declared.letters.Letter.TheVariants.{Density, Slope, Exact}
@@ -222,8 +222,8 @@ related_only cycle n r x e =
 
 related_back : (cycle n : ℕ) (r : Row) → r.timing.cost ≤ r.timing.deadline → r.timing.deadline ≤ r.timing.spacing → cycle % r.timing.spacing ≡ 0 → related cycle n r ≡ Ok r
 related_back cycle n r f c d =
-    cond_false (ltb r.timing.deadline r.timing.cost || ltb r.timing.spacing r.timing.deadline) _ _ (or_from _ _ (le-ltb _ _ f) (le-ltb _ _ c))
-    ∙ cond_true (eqb (cycle % r.timing.spacing) 0) _ _ (eq-eqb _ _ d)
+    cond-false (ltb r.timing.deadline r.timing.cost || ltb r.timing.spacing r.timing.deadline) _ _ (or_from _ _ (le-ltb _ _ f) (le-ltb _ _ c))
+    ∙ cond-true (eqb (cycle % r.timing.spacing) 0) _ _ (eq-eqb _ _ d)
 
 -- what an accepted line is
 pub record LineTold (form : Form) (cycle place : ℕ) (bs : List ℕ) (r : Row) : Type 0 where

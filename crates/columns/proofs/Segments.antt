@@ -1,5 +1,5 @@
 -- A line as five segments and the end byte: cut from the text at their columns, and put together again.
-use Rattle.std.proofs.Common.{◌≡◌, ℕ, zero, suc, ◌+◌, ◌<◌, ◌≤◌, true, not, ◌&&◌, eqb, List, [], ◌∷◌, ◌++◌, length, take, drop, sym, refl, ap, ◌∙◌, append_assoc, arith, length_append, take-add}
+use Rattle.std.proofs.Common.{◌≡◌, ℕ, zero, suc, ◌+◌, ◌<◌, ◌≤◌, true, not, ◌&&◌, eqb, List, [], ◌∷◌, ◌++◌, length, take, drop, sym, refl, ap, ◌∙◌, append_assoc, arith, length-append, take-add}
 use Rattle.std.proofs.lemmas.List.{take_at, drop_at, drop-drop}
 use Rattle.std.proofs.lemmas.Bool.{and_parts, eqb-true}
 use Rattle.columns.specs.Lines.{newline, ends}
@@ -44,7 +44,7 @@ module _ (v w x y z : ℕ) (a b c d e : List ℕ) where
   -- a line with something after it is cut into its segments
   module _ (la : length a ≡ v) (lb : length b ≡ w) (lc : length c ≡ x) (ld : length d ≡ y) (le : length e ≡ z) where
     pub length_line : length (line a b c d e) ≡ v + w + x + y + z + 1
-    length_line = simp length_append (omega arith)
+    length_line = simp length-append (omega arith)
 
     module _ (ca : clean a ≡ true) (cb : clean b ≡ true) (cc' : clean c ≡ true) (cd : clean d ≡ true) (ce : clean e ≡ true) (rest : List ℕ) where
       cut_flat : Cut v w x y z a b c d e (a ++ (b ++ (c ++ (d ++ (e ++ (newline ∷ rest))))))

@@ -1,8 +1,8 @@
 -- A whole text is read just where it is the one text of a table or plan within all limits.
-use Rattle.std.proofs.Common.{◌≡◌, ℕ, zero, suc, ◌+◌, ◌*◌, ◌<◌, ◌≤◌, Bool, true, false, cond, ltb, List, [], ◌∷◌, ◌++◌, length, take, drop, Ok, Err, Result, sym, refl, ap, ◌∙◌, subst, mul-suc, arith, length_append}
+use Rattle.std.proofs.Common.{◌≡◌, ℕ, zero, suc, ◌+◌, ◌*◌, ◌<◌, ◌≤◌, Bool, true, false, cond, ltb, List, [], ◌∷◌, ◌++◌, length, take, drop, Ok, Err, Result, sym, refl, ap, ◌∙◌, subst, mul-suc, arith, length-append}
 use Rattle.std.specs.List.{flat_map, AllByRecursion as All}
 use Rattle.std.proofs.lemmas.List.{nil_from_length, drop_at, take-append-drop}
-use Rattle.std.proofs.lemmas.Bool.{cond_false, ltb-false, le-ltb}
+use Rattle.std.proofs.lemmas.Bool.{cond-false, ltb-false, le-ltb}
 use Rattle.fault.proofs.Steps.{then_ok, then_back, passed_unless}
 use Rattle.duty.specs.declared.records.Record.{Record}
 use Rattle.columns.specs.declared.forms.Form.{Form}
@@ -52,13 +52,13 @@ lines_back form cycle place line (x ∷ xs) g =
 pub length_lines : (form : Form) (cycle : ℕ) (xs : List Record) → All (Writable form cycle) xs → length (flat_map (line_text form) xs) ≡ (line_width form + 1) * length xs
 length_lines form cycle [] g = omega arith
 length_lines form cycle (x ∷ xs) g =
-    length_append (line_text form x) (flat_map (line_text form) xs)
+    length-append (line_text form x) (flat_map (line_text form) xs)
     ∙ omega (arith, length_duty form cycle x g.0, length_lines form cycle xs g.1, mul-suc (line_width form + 1) (length xs))
 
 -- how long a text is
 pub length_text : (form : Form) (t : Sheet) → Valid form t → length (text form t) ≡ text_length form t.head.duties
 length_text form t v =
-    length_append (header_text form t.head) (flat_map (line_text form) t.rows)
+    length-append (header_text form t.head) (flat_map (line_text form) t.rows)
     ∙ omega (arith, length_header form t.head v.limits, length_lines form t.head.cycle t.rows v.rows, ap (λ (n : ℕ). (line_width form + 1) * n) v.count)
 
 text_only : (form : Form) (room : ℕ) (bs : List ℕ) (t : Sheet) → sheet_of form room bs ≡ Ok t → ReadsAs form room bs t
@@ -85,7 +85,7 @@ text_back form room t v fits =
     ap (records_of form h.duties h.cycle 21 2) past
     ∙ ap (λ (n : ℕ). records_of form n h.cycle 21 2 rest) (sym v.count)
     ∙ lines_back form h.cycle 21 2 t.rows v.rows in
-    then_ok _ (header_back form 1 h rest v.limits) ∙ cond_false _ _ _ (le-ltb room h.duties fits) ∙ then_ok _ rows
+    then_ok _ (header_back form 1 h rest v.limits) ∙ cond-false _ _ _ (le-ltb room h.duties fits) ∙ then_ok _ rows
 
 pub one_text : OneText
 one_text = record {

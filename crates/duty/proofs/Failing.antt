@@ -2,7 +2,7 @@
 use Rattle.std.proofs.Common.{◌≡◌, ℕ, ◌+◌, ◌<◌, ◌≤◌, Bool, true, false, cond, List, length, get_or, drop, Some, None, Option, sym, refl, ap, ◌∙◌, arith}
 use Rattle.std.specs.Option.{option_map}
 use Rattle.std.proofs.lemmas.List.{at_drop_more, at_drop_all}
-use Rattle.std.proofs.lemmas.Bool.{cond_true, cond_false}
+use Rattle.std.proofs.lemmas.Bool.{cond-true, cond-false}
 use Rattle.duty.specs.Firsts.{first_failing}
 
 -- a place counted from i
@@ -23,10 +23,10 @@ module _ {A : Type 0} (test : A → Bool) (xs : List A) (i : ℕ) where
     at_place = at_drop_more (first_failing test) xs i d within
 
     pub failing_more : test (get_or xs i d) ≡ true → from (i + 1) (first_failing test (drop (i + 1) xs)) ≡ from i (first_failing test (drop i xs))
-    failing_more e = shift i _ ∙ ap (from i) (sym (at_place ∙ cond_true _ _ _ e))
+    failing_more e = shift i _ ∙ ap (from i) (sym (at_place ∙ cond-true _ _ _ e))
 
     pub failing_here : test (get_or xs i d) ≡ false → from i (first_failing test (drop i xs)) ≡ Some i
-    failing_here e = ap (from i) (at_place ∙ cond_false _ _ _ e) ∙ ap Some (omega arith)
+    failing_here e = ap (from i) (at_place ∙ cond-false _ _ _ e) ∙ ap Some (omega arith)
 
   pub failing_none : length xs ≤ i → from i (first_failing test (drop i xs)) ≡ None
   failing_none past = ap (from i) (at_drop_all (first_failing test) xs i past)

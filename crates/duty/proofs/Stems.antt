@@ -1,8 +1,8 @@
 -- The columns hold a name just where they hold a stem and then blanks.
-use Rattle.std.proofs.Common.{◌≡◌, ℕ, zero, suc, ◌+◌, ◌<◌, ◌≤◌, Bool, true, false, cond, eqb, List, [], ◌∷◌, ◌++◌, length, replicate, sym, refl, ap, ◌∙◌, ⊎_elim, arith, length_append}
+use Rattle.std.proofs.Common.{◌≡◌, ℕ, zero, suc, ◌+◌, ◌<◌, ◌≤◌, Bool, true, false, cond, eqb, List, [], ◌∷◌, ◌++◌, length, replicate, sym, refl, ap, ◌∙◌, ⊎_elim, arith, length-append}
 use lib.ListN.{length-replicate}
 use Rattle.std.specs.List.{AllByRecursion as All}
-use Rattle.std.proofs.lemmas.Bool.{cases_Bool, cond_true, cond_false, eqb-true, eq-eqb}
+use Rattle.std.proofs.lemmas.Bool.{cases_Bool, cond-true, cond-false, eqb-true, eq-eqb}
 use Rattle.duty.specs.Names.{name_byte, tail_byte, blanks_in, tail_in, name_in, named, Stem, NamesAreStems}
 
 -- a run of blanks is counted whole
@@ -17,7 +17,7 @@ tail_run (suc k) = blanks_run (suc k)
 tail_stem : (others : List ℕ) (k : ℕ) → All (λ b. tail_byte b ≡ true) others → tail_in (others ++ replicate k 32) ≡ length others + k
 tail_stem [] k h = tail_run k ∙ omega arith
 tail_stem (b ∷ bs) k h =
-    let s = cond_true (tail_byte b) (suc (tail_in (bs ++ replicate k 32))) (blanks_in ((b ∷ bs) ++ replicate k 32)) h.0 in
+    let s = cond-true (tail_byte b) (suc (tail_in (bs ++ replicate k 32))) (blanks_in ((b ∷ bs) ++ replicate k 32)) h.0 in
     let r = tail_stem bs k h.1 in
     s ∙ omega arith
 
@@ -27,11 +27,11 @@ blanks_whole [] h = refl
 blanks_whole (b ∷ bs) h =
     ⊎_elim
     (λ blank.
-    let s = cond_true (eqb b 32) (suc (blanks_in bs)) 0 blank in
+    let s = cond-true (eqb b 32) (suc (blanks_in bs)) 0 blank in
     let e : b ≡ 32 = eqb-true b 32 blank in
     let r = blanks_whole bs (omega arith) in
     cc)
-    (λ ink. let s = cond_false (eqb b 32) (suc (blanks_in bs)) 0 ink in absurd (omega arith))
+    (λ ink. let s = cond-false (eqb b 32) (suc (blanks_in bs)) 0 ink in absurd (omega arith))
     (cases_Bool (eqb b 32))
 
 record Tail (bs : List ℕ) : Type 0 where
@@ -45,11 +45,11 @@ tail_whole [] h = record { others = []; blanks = 0; goes_on = tt; whole = refl }
 tail_whole (b ∷ bs) h =
     ⊎_elim
     (λ on.
-    let s = cond_true (tail_byte b) (suc (tail_in bs)) (blanks_in (b ∷ bs)) on in
+    let s = cond-true (tail_byte b) (suc (tail_in bs)) (blanks_in (b ∷ bs)) on in
     let r = tail_whole bs (omega arith) in
     record { others = b ∷ r.others; blanks = r.blanks; goes_on = (on, r.goes_on); whole = ap (λ l. b ∷ l) r.whole })
     (λ off.
-    let s = cond_false (tail_byte b) (suc (tail_in bs)) (blanks_in (b ∷ bs)) off in
+    let s = cond-false (tail_byte b) (suc (tail_in bs)) (blanks_in (b ∷ bs)) off in
     record { others = []; blanks = length (b ∷ bs); goes_on = tt; whole = blanks_whole (b ∷ bs) (omega arith) })
     (cases_Bool (tail_byte b))
 
@@ -58,18 +58,18 @@ stem_of [] l e = absurd (omega arith)
 stem_of (b ∷ bs) l e =
     ⊎_elim
     (λ on.
-    let s = cond_true (name_byte b) (suc (tail_in bs)) 0 on in
+    let s = cond-true (name_byte b) (suc (tail_in bs)) 0 on in
     let r = tail_whole bs (omega arith) in
     record { first = b; others = r.others; blanks = r.blanks; starts = on; goes_on = r.goes_on; whole = ap (λ l. b ∷ l) r.whole })
-    (λ off. let s = cond_false (name_byte b) (suc (tail_in bs)) 0 off in absurd (omega arith))
+    (λ off. let s = cond-false (name_byte b) (suc (tail_in bs)) 0 off in absurd (omega arith))
     (cases_Bool (name_byte b))
 
 stem_named : (bs : List ℕ) → length bs ≡ 8 → Stem bs → name_in bs ≡ 8
 stem_named bs l s =
-    let counted = cond_true (name_byte s.first) (suc (tail_in (s.others ++ replicate s.blanks 32))) 0 s.starts in
+    let counted = cond-true (name_byte s.first) (suc (tail_in (s.others ++ replicate s.blanks 32))) 0 s.starts in
     let tail = tail_stem s.others s.blanks s.goes_on in
     let long : length bs ≡ suc (length s.others + s.blanks) =
-    ap length s.whole ∙ ap suc (length_append s.others (replicate s.blanks 32) ∙ ap (λ n. length s.others + n) (length-replicate {A = ℕ} s.blanks 32)) in
+    ap length s.whole ∙ ap suc (length-append s.others (replicate s.blanks 32) ∙ ap (λ n. length s.others + n) (length-replicate {A = ℕ} s.blanks 32)) in
     ap name_in s.whole ∙ counted ∙ omega arith
 
 pub names_are_stems : NamesAreStems

@@ -52,7 +52,7 @@ pub record BoardFigures : Type 0 where
   -- all three arrive at clock 0: shades is due at 12 and gets 4 ticks, great at 5 and 2, swell at 6 and 3
   pub all_at_zero : answers [] all_arrive ≡ granted 12 4 ∷ granted 5 2 ∷ granted 6 3 ∷ []
   -- of the ten ticks that follow great gets two, swell three and shades four, and none gets the last
-  pub ten_ticks :
+  pub ten-ticks :
       answers all_arrive (ticks 10)
       ≡ map ran (Some 1 ∷ Some 1 ∷ Some 2 ∷ Some 2 ∷ Some 2 ∷ Some 0 ∷ Some 0 ∷ Some 0 ∷ Some 0 ∷ None ∷ [])
   -- after three, nine and ten of them the clock is at 3, 9 and 10

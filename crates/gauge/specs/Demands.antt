@@ -1,10 +1,10 @@
 -- The demand of one duty, and what it keeps.
 use Rattle.std.specs.Prelude.{◌≡◌, ℕ, zero, suc, ◌+◌, ◌-◌, ◌*◌, ◌/◌, ◌^◌, ◌<◌, ◌≤◌, true, List, [], ◌∷◌, length, nat_lt}
-use Rattle.std.proofs.Common.{⊎_elim, ap, ◌∙◌, mul-le-mul, mul-le-mul_left, mul-le-mul_right, mul_comm, mul_assoc, add-mul, one-mul, zero-mul, mul-zero, mul-suc, suc-mul, div-mul-le_self, le-div_iff_mul-le, le_trans, le_of_mul_le_mul_right, arith}
+use Rattle.std.proofs.Common.{⊎_elim, ap, ◌∙◌, mul-le-mul, mul-le-mul_left, mul-le-mul_right, mul_comm, mul_assoc, add-mul, one-mul, zero-mul, mul-zero, mul-suc, suc-mul, div-mul-le_self, le-div_iff_mul-le, le_trans, le_of_mul-le-mul_right, arith}
 use Rattle.std.proofs.Math.Nat.{div-eq_of_lt, add-div_right, div-zero}
 use Rattle.std.specs.List.{AllByRecursion as All}
 use Rattle.std.proofs.ByRecursion.{All-weaker}
-use Rattle.std.proofs.lemmas.Bool.{cond_true, cond_false, lt-ltb, le-ltb, cases_lt}
+use Rattle.std.proofs.lemmas.Bool.{cond-true, cond-false, lt-ltb, le-ltb, cases_lt}
 use Rattle.duty.specs.declared.timings.Timing.{Timing}
 use Rattle.duty.specs.Demand.{demand, demands}
 use Rattle.duty.specs.Limits.{longest, most_duties}
@@ -20,11 +20,11 @@ module _ (d : Timing) (t : ℕ) where
 
   pub demand_before : t < d.deadline → demand d t ≡ 0
   unfolding demand
-  demand_before h = cond_true (nat_lt t d.deadline) 0 (d.cost * jobs) (lt-ltb t d.deadline h)
+  demand_before h = cond-true (nat_lt t d.deadline) 0 (d.cost * jobs) (lt-ltb t d.deadline h)
 
   pub demand_after : d.deadline ≤ t → demand d t ≡ d.cost * jobs
   unfolding demand
-  demand_after h = cond_false (nat_lt t d.deadline) 0 (d.cost * jobs) (le-ltb t d.deadline h)
+  demand_after h = cond-false (nat_lt t d.deadline) 0 (d.cost * jobs) (le-ltb t d.deadline h)
 
   jobs_fit : Timed d → d.deadline ≤ t → jobs * d.deadline ≤ t
   jobs_fit k h =
@@ -52,7 +52,7 @@ module _ (d : Timing) (t : ℕ) where
   pub demand_alone : Timed d → demand d t ≤ t
   demand_alone k =
       let a : d.cost * t ≤ d.deadline * t = mul-le-mul_right t k.feasible in
-      le_of_mul_le_mul_right {m = demand d t} {n = t} {k = d.deadline} (omega (arith, demand_dense k, mul_comm d.deadline t)) (omega (arith, k.positive, k.feasible))
+      le_of_mul-le-mul_right {m = demand d t} {n = t} {k = d.deadline} (omega (arith, demand_dense k, mul_comm d.deadline t)) (omega (arith, k.positive, k.feasible))
 
 div_grows : (a b s : ℕ) → a ≤ b → a / s ≤ b / s
 div_grows a b zero h = omega (arith, div-zero a, div-zero b)

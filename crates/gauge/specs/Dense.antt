@@ -1,6 +1,6 @@
 -- The density gauge keeps the law.
 use Rattle.std.specs.Prelude.{◌≡◌, ℕ, ◌+◌, ◌-◌, ◌*◌, ◌/◌, ◌<◌, ◌≤◌, true, List, length, nat_le}
-use Rattle.std.proofs.Common.{ap, mul_comm, mul_assoc, mul-le-mul_right, le_of_mul_le_mul_right, div-lt_iff_lt-mul, add-mul, one-mul, arith}
+use Rattle.std.proofs.Common.{ap, mul_comm, mul_assoc, mul-le-mul_right, le_of_mul-le-mul_right, div-lt_iff_lt-mul, add-mul, one-mul, arith}
 use Rattle.std.proofs.Math.Nat.{lt-div-mul-add}
 use Rattle.std.specs.List.{AllByRecursion as All}
 use Rattle.std.proofs.ByRecursion.{All-weaker}
@@ -45,7 +45,7 @@ crossed n c d m w t some h g =
     let e₁ : n * d * w ≡ n * w * d = turned n d w in
     let e₂ : c * t * w ≡ c * w * t = turned c t w in
     let e₃ : m * d * t ≡ m * t * d = turned m d t in
-    le_of_mul_le_mul_right {m = n * w} {n = m * t} {k = d} (omega arith) some
+    le_of_mul-le-mul_right {m = n * w} {n = m * t} {k = d} (omega arith) some
   where
     turned : (x y z : ℕ) → x * y * z ≡ x * z * y
     turned x y z = omega (arith, mul_assoc x y z, mul_assoc x z y, ap (λ (k : ℕ). x * k) (mul_comm y z))

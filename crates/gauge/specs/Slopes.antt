@@ -1,9 +1,9 @@
 -- The slope gauge keeps the law: the lines are above the demand, and stay below the time.
 use Rattle.std.specs.Prelude.{◌≡◌, ℕ, zero, suc, ◌+◌, ◌-◌, ◌*◌, ◌/◌, ◌^◌, ◌<◌, ◌≤◌, true, ◌⊎◌, List, [], ◌∷◌, length, ◌≢◌, nat_lt}
-use Rattle.std.proofs.Common.{inl, inr, ⊎_elim, sym, ap, ◌∙◌, mul-le-mul, mul-le-mul_left, mul-le-mul_right, mul_comm, mul_assoc, mul-add, mul-suc, mul-zero, add-mul, zero-mul, suc-mul, div-mul-le_self, le_of_mul_le_mul_right, arith}
+use Rattle.std.proofs.Common.{inl, inr, ⊎_elim, sym, ap, ◌∙◌, mul-le-mul, mul-le-mul_left, mul-le-mul_right, mul_comm, mul_assoc, mul-add, mul-suc, mul-zero, add-mul, zero-mul, suc-mul, div-mul-le_self, le_of_mul-le-mul_right, arith}
 use Rattle.std.specs.List.{AllByRecursion as All}
 use Rattle.std.proofs.ByRecursion.{All-weaker}
-use Rattle.std.proofs.lemmas.Bool.{and_parts, leb-true, cond_true, cond_false, lt-ltb, le-ltb, cases_lt, cases_eq}
+use Rattle.std.proofs.lemmas.Bool.{and_parts, leb-true, cond-true, cond-false, lt-ltb, le-ltb, cases_lt, cases_eq}
 use Rattle.duty.specs.declared.timings.Timing.{Timing}
 use Rattle.duty.specs.Demand.{demand, demands}
 use Rattle.duty.specs.Limits.{longest, most_duties}
@@ -18,10 +18,10 @@ use Rattle.gauge.specs.Demands.{demand_before, demand_after}
 -- One duty's line.
 module _ (cycle : ℕ) (d : Timing) where
   pub slope_before : (t : ℕ) → t < d.deadline → slope_at cycle t d ≡ 0
-  slope_before t h = cond_true (nat_lt t d.deadline) 0 (d.cost * cycle + rate cycle d * (t - d.deadline)) (lt-ltb t d.deadline h)
+  slope_before t h = cond-true (nat_lt t d.deadline) 0 (d.cost * cycle + rate cycle d * (t - d.deadline)) (lt-ltb t d.deadline h)
 
   pub slope_after : (t : ℕ) → d.deadline ≤ t → slope_at cycle t d ≡ d.cost * cycle + rate cycle d * (t - d.deadline)
-  slope_after t h = cond_false (nat_lt t d.deadline) 0 (d.cost * cycle + rate cycle d * (t - d.deadline)) (le-ltb t d.deadline h)
+  slope_after t h = cond-false (nat_lt t d.deadline) 0 (d.cost * cycle + rate cycle d * (t - d.deadline)) (le-ltb t d.deadline h)
 
   -- a cost in each spacing is the rate in a cycle
   module _ (f : Fair cycle d) where
@@ -170,7 +170,7 @@ rates_bounded ds cycle e =
         omega (arith, total_most (rate cycle) 0 ds none, mul-zero (length ds))
     at_last p (suc t) past under =
         let steep = slopes_steep ds cycle (suc t) (both (Fair cycle) (λ d. d.deadline ≤ suc t) ds p.is_fair.each_fair past) in
-        le_of_mul_le_mul_right {m = total (rate cycle) ds} {n = cycle} {k = suc t} (omega (arith, steep, mul_comm cycle (suc t))) (omega arith)
+        le_of_mul-le-mul_right {m = total (rate cycle) ds} {n = cycle} {k = suc t} (omega (arith, steep, mul_comm cycle (suc t))) (omega arith)
 
 -- t is a deadline of the list, where P holds, or it is none
 at_deadline : (ds : List Timing) (P : ℕ → Type 0) (t : ℕ) → All (λ d. P d.deadline) ds → P t ⊎ All (λ d. d.deadline ≢ t) ds
@@ -195,4 +195,4 @@ slopes_below ds cycle e (suc t) =
 pub slope_bounded : (ds : List Timing) (cycle : ℕ) → slope_passed ds cycle ≡ true → (t : ℕ) → demands ds t ≤ t
 slope_bounded ds cycle e t =
     let w = (passed ds cycle e).is_fair in
-    le_of_mul_le_mul_right {m = demands ds t} {n = t} {k = cycle} (omega (arith, slopes_above ds cycle w.each_fair t, slopes_below ds cycle e t)) w.some
+    le_of_mul-le-mul_right {m = demands ds t} {n = t} {k = cycle} (omega (arith, slopes_above ds cycle w.each_fair t, slopes_below ds cycle e t)) w.some

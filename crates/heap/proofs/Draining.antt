@@ -3,7 +3,7 @@ use Rattle.std.proofs.Common.{◌≡◌, ℕ, ◌+◌, ◌-◌, ◌<◌, ◌≤�
 use Rattle.std.specs.List.{slice_get, AllByRecursion as All}
 use Rattle.std.specs.List.Sorted.{IsPermutation}
 use Rattle.std.proofs.ByRecursion.{All-push, All-weaker, all_shuffled}
-use Rattle.std.proofs.lemmas.List.{drop-drop, drop-set-lt, take_more_set, length_append, length-take-le, map-append}
+use Rattle.std.proofs.lemmas.List.{drop-drop, drop-set-lt, take_more_set, length-append, length-take-le, map-append}
 use Rattle.std.proofs.lemmas.List.Sorted.{length_permutation, IsPermutation-cons, IsPermutation-refl, IsPermutation-trans}
 use Rattle.heap.specs.declared.binary.Heap.{Heap}
 use Rattle.heap.specs.Order.{Heaped, Least}
@@ -42,7 +42,7 @@ module _ {X : Type 0} (before : Heap X) (start : List X) where
   module _ (n : ℕ) (now' next : Heap X) (out : List X) (moved : Moved before start n now' out) where
     -- as many have left as are held no more
     pub moved_count : n ≤ length out → length (held now') + n ≡ length (held before)
-    moved_count fits = omega (arith, length_permutation _ _ moved.entries, length_append (take n out) (held now'), length-take-le n out fits)
+    moved_count fits = omega (arith, length_permutation _ _ moved.entries, length-append (take n out) (held now'), length-take-le n out fits)
 
     pub one_moved : (x : X) → n < length out → Removed 0 now' (Some x) next → Moved before start (n + 1) next (set out n x)
     one_moved x fits gone = record {

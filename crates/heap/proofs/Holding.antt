@@ -2,7 +2,7 @@
 use Rattle.std.proofs.Common.{◌≡◌, ℕ, ◌+◌, ◌-◌, ◌<◌, ◌≤◌, Bool, List, [], ◌∷◌, ◌++◌, length, get_or, take, drop, set, Some, sym, ap, ◌∙◌, subst, arith}
 use Rattle.std.specs.List.{slice_get}
 use Rattle.std.specs.List.Sorted.{IsPermutation}
-use Rattle.std.proofs.lemmas.List.{take_at, drop_at, take-append-le, take_more_set, get_or-take, get_or-set_other, drop-set-lt, length_append, length-drop, length-set, length-take-le}
+use Rattle.std.proofs.lemmas.List.{take_at, drop_at, take-append-le, take_more_set, get_or-take, get_or-set_other, drop-set-lt, length-append, length-drop, length-set, length-take-le}
 use Rattle.std.proofs.lemmas.Option.{slice_get-get_or}
 use Rattle.std.proofs.lemmas.List.Sorted.{IsPermutation-to_front, IsPermutation-sym, IsPermutation-trans, length_permutation, IsPermutation-refl}
 use Rattle.heap.specs.Order.{Heaped}
@@ -24,7 +24,7 @@ module _ {X : Type 0} (xs hs ys : List X) (n m k : ℕ) (x : X) (first : take n 
   long = length_permutation _ ys w ∙ long_part
 
   pub pushed_room : length (ys ++ drop k (set xs m x)) ≡ length xs
-  pushed_room = omega (arith, length_append ys (drop k (set xs m x)), length-drop k (set xs m x), length-set xs m x, long)
+  pushed_room = omega (arith, length-append ys (drop k (set xs m x)), length-drop k (set xs m x), length-set xs m x, long)
 
   pub pushed_taken : IsPermutation (x ∷ hs) (take (n + 1) (ys ++ drop k (set xs m x)))
   pushed_taken =
@@ -64,7 +64,7 @@ module _ {X : Type 0} (xs hs ys : List X) (n k i : ℕ) (first : take n xs ≡ h
   left = take-append-le (n - 1) ys (drop k xs) (omega (arith, long_ys))
 
   pub removed_room : length (ys ++ drop k xs) ≡ length xs
-  removed_room = omega (arith, length_append ys (drop k xs), length-drop k xs, long_ys)
+  removed_room = omega (arith, length-append ys (drop k xs), length-drop k xs, long_ys)
 
   -- it was read at j, and moved out from m
   pub removed_others : (j m : ℕ) (d : X) → j ≡ i → m ≡ i → ((d : X) → get_or ys (length (take k xs) - 1) d ≡ get_or (take k xs) m d) → IsPermutation hs (get_or xs j d ∷ take (n - 1) (ys ++ drop k xs))

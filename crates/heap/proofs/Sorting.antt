@@ -4,7 +4,7 @@ use borrow.Author.Tests.{both_ways}
 use Rattle.std.specs.List.Sorted.{IsPermutation}
 use Rattle.std.specs.List.{AllByRecursion as All}
 use Rattle.std.proofs.ByRecursion.{All-weaker, all_shuffled}
-use Rattle.std.proofs.lemmas.List.Sorted.{sum_by_IsPermutation, IsPermutation-refl, IsPermutation-trans, IsPermutation-cons, IsPermutation-swap}
+use Rattle.std.proofs.lemmas.List.Sorted.{sum_by-IsPermutation, IsPermutation-refl, IsPermutation-trans, IsPermutation-cons, IsPermutation-swap}
 use Rattle.std.proofs.lemmas.List.Sums.{sum_by-cons}
 use Rattle.heap.specs.Order.{Least}
 use Rattle.heap.specs.Sorted.{Ascending, insert, sorted, keys_in_order, SortedLaws}
@@ -118,7 +118,7 @@ module _ {X : Type 0} (upto : X → X → Bool) (total : (x y : X) → upto x y 
     -- however the same entries stand, their keys in order are the same
     pub keys_any_order : (xs ys : List X) → IsPermutation xs ys → keys_in_order key upto xs ≡ keys_in_order key upto ys
     keys_any_order xs ys w = same_keys (sorted upto xs) (sorted upto ys) (sorted_ascends xs) (sorted_ascends ys) (λ z.
-        sum_by_IsPermutation (tie z) xs _ (shuffled_sorted upto xs) ∙ sym (sum_by_IsPermutation (tie z) xs ys w) ∙ sym (sum_by_IsPermutation (tie z) ys _ (shuffled_sorted upto ys)))
+        sum_by-IsPermutation (tie z) xs _ (shuffled_sorted upto xs) ∙ sym (sum_by-IsPermutation (tie z) xs ys w) ∙ sym (sum_by-IsPermutation (tie z) ys _ (shuffled_sorted upto ys)))
 
     -- of the keys in order, that of an entry that may leave before all others is the first
     pub keys_least_first : (xs ys : List X) (x : X) → IsPermutation xs (x ∷ ys) → Least upto x ys → keys_in_order key upto xs ≡ key x ∷ keys_in_order key upto ys

@@ -2,7 +2,7 @@
 use Rattle.std.specs.Prelude.{◌≡◌, ℕ, zero, suc, ◌+◌, ◌≤◌, Bool, true, false, cond, List, [], ◌∷◌, Some, None, sum_by, Option, ◌==◌, ◌≢◌, refl}
 use Rattle.std.proofs.Common.{⊎_elim, sym, ap, ◌∙◌, arith}
 use Rattle.std.specs.List.Sorted.{IsPermutation}
-use Rattle.std.proofs.lemmas.List.Sorted.{sum_by_IsPermutation}
+use Rattle.std.proofs.lemmas.List.Sorted.{sum_by-IsPermutation}
 use Rattle.std.proofs.lemmas.List.Sums.{sum_by-cons}
 use Rattle.std.proofs.lemmas.Bool.{cases_eq, eq-eqb, ne_eqb}
 use Rattle.heap_queue.specs.Entries.{deadline_at, tally}
@@ -21,7 +21,7 @@ total_sum f [] = refl
 total_sum f (e ∷ es) = ap (λ (n : ℕ). f e + n) (total_sum f es) ∙ sym (sum_by-cons f e es)
 
 total_shuffled : (f : Timed → ℕ) (xs ys : List Timed) → IsPermutation xs ys → total f ys ≡ total f xs
-total_shuffled f xs ys s = total_sum f ys ∙ sum_by_IsPermutation f xs ys s ∙ sym (total_sum f xs)
+total_shuffled f xs ys s = total_sum f ys ∙ sum_by-IsPermutation f xs ys s ∙ sym (total_sum f xs)
 
 abbrev one : ℕ → Timed → ℕ
 one p e = cond (e.place == p) 1 0

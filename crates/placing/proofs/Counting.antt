@@ -2,7 +2,7 @@
 use Rattle.std.proofs.Common.{◌≡◌, ℕ, zero, suc, ◌+◌, ◌<◌, ◌≤◌, cond, eqb, List, [], ◌∷◌, length, get_or, set, sum_by, sym, refl, ap, ◌∙◌, ⊎_elim, arith}
 use Rattle.std.proofs.lemmas.List.{get_or-set_same, get_or-set_other}
 use Rattle.std.proofs.lemmas.List.Sums.{sum_by-cons}
-use Rattle.std.proofs.lemmas.Bool.{cases_eq, cond_true, cond_false, eq-eqb, ne_eqb}
+use Rattle.std.proofs.lemmas.Bool.{cases_eq, cond-true, cond-false, eq-eqb, ne_eqb}
 use Rattle.duty.specs.declared.records.Record.{Record}
 use Rattle.boards.specs.Lists.{on_board, no_record}
 use Rattle.placing.specs.declared.lined.Lined.{Lined}
@@ -19,10 +19,10 @@ abbrev pub times : ℕ → List Lined → ℕ
 times k es = sum_by (here k) es
 
 pub times_first : (k : ℕ) (e : Lined) (es : List Lined) → e.index ≡ k → times k (e ∷ es) ≡ 1 + times k es
-times_first k e es h = sum_by-cons (here k) e es ∙ ap (λ (n : ℕ). n + times k es) (cond_true _ _ _ (eq-eqb e.index k h))
+times_first k e es h = sum_by-cons (here k) e es ∙ ap (λ (n : ℕ). n + times k es) (cond-true _ _ _ (eq-eqb e.index k h))
 
 pub times_other : (k : ℕ) (e : Lined) (es : List Lined) → (e.index ≡ k → ⊥) → times k (e ∷ es) ≡ times k es
-times_other k e es h = sum_by-cons (here k) e es ∙ ap (λ (n : ℕ). n + times k es) (cond_false _ _ _ (ne_eqb e.index k h)) ∙ omega arith
+times_other k e es h = sum_by-cons (here k) e es ∙ ap (λ (n : ℕ). n + times k es) (cond-false _ _ _ (ne_eqb e.index k h)) ∙ omega arith
 
 times_none : (k j : ℕ) (rs : List Record) → k < j → times k (lined j rs) ≡ 0
 times_none k j [] h = refl
@@ -45,7 +45,7 @@ cleared_board (r ∷ rs) (suc k) = cleared_board rs k
 
 pub cleared_list : (rs : List Record) (b : ℕ) → 1 ≤ b → on_board b (cleared rs) ≡ []
 cleared_list [] b h = refl
-cleared_list (r ∷ rs) b h = cond_false _ _ _ (ne_eqb 0 b (λ e. omega arith)) ∙ cleared_list rs b h
+cleared_list (r ∷ rs) b h = cond-false _ _ _ (ne_eqb 0 b (λ e. omega arith)) ∙ cleared_list rs b h
 
 pub cleared_twice : (rs : List Record) → cleared (cleared rs) ≡ cleared rs
 cleared_twice [] = refl
@@ -66,5 +66,5 @@ seat_duties (r ∷ rs) (suc i) b = ap (λ (l : List Record). moved_to r 0 ∷ l)
 
 pub seat_lists : (rs : List Record) (i c b : ℕ) → ((get_or rs i no_record).board ≡ b → ⊥) → (c ≡ b → ⊥) → on_board b (seat rs i c) ≡ on_board b rs
 seat_lists [] i c b p q = refl
-seat_lists (r ∷ rs) zero c b p q = cond_false _ _ _ (ne_eqb c b q) ∙ sym (cond_false _ _ _ (ne_eqb r.board b p))
+seat_lists (r ∷ rs) zero c b p q = cond-false _ _ _ (ne_eqb c b q) ∙ sym (cond-false _ _ _ (ne_eqb r.board b p))
 seat_lists (r ∷ rs) (suc i) c b p q = ap (λ l. cond (eqb r.board b) (r.timing ∷ l) l) (seat_lists rs i c b p q)

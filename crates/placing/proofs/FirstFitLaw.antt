@@ -1,7 +1,7 @@
 -- Placing by first-fit keeps its law: duty by duty, from no duty on a board.
 use Rattle.std.proofs.Common.{◌≡◌, ℕ, zero, suc, ◌+◌, ◌<◌, ◌≤◌, Bool, true, false, cond, eqb, ◌⊎◌, List, [], ◌∷◌, map, length, get_or, Some, None, Option, sym, refl, ap, ◌∙◌, subst, inl, inr, ⊎_elim, arith}
 use Rattle.std.specs.List.{AllByRecursion as All}
-use Rattle.std.proofs.lemmas.List.Sorted.{sum_by_IsPermutation}
+use Rattle.std.proofs.lemmas.List.Sorted.{sum_by-IsPermutation}
 use Rattle.std.proofs.lemmas.Bool.{cases_eq, eq-eqb, ne_eqb}
 use Rattle.duty.specs.declared.records.Record.{Record}
 use Rattle.duty.specs.declared.timings.Timing.{Timing}
@@ -126,7 +126,7 @@ module _ (passes : List Timing → ℕ → Bool) (boards cycle : ℕ) (rs : List
     long = length_cleared rs;
     each = λ k h.
         inl (
-          sum_by_IsPermutation (here k) (lined 0 (cleared rs)) _ (shuffled_sorted sooner (lined 0 (cleared rs))) ∙ times_once k 0 (cleared rs) (omega arith) (omega (arith, length_cleared rs)),
+          sum_by-IsPermutation (here k) (lined 0 (cleared rs)) _ (shuffled_sorted sooner (lined 0 (cleared rs))) ∙ times_once k 0 (cleared rs) (omega arith) (omega (arith, length_cleared rs)),
           cleared_board rs k,
         );
     lists = λ b l h. inl (cleared_list rs b l);

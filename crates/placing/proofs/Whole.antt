@@ -1,7 +1,7 @@
 -- Placing as a whole: past the checks, the header's records are placed by first-fit.
 use Rattle.std.proofs.Common.{◌≡◌, ℕ, ◌-◌, ◌≤◌, Bool, true, ltb, List, ◌++◌, length, take, drop, Ok, Err, Option, Result, sym, refl, ap, ◌∙◌, subst, ⊎_elim, arith, length-take}
 use Rattle.std.proofs.lemmas.List.{length-take-le, take_at}
-use Rattle.std.proofs.lemmas.Bool.{cond_false, le-ltb, ltb-false}
+use Rattle.std.proofs.lemmas.Bool.{cond-false, le-ltb, ltb-false}
 use Rattle.fault.specs.declared.Fault.{Fault}
 use Rattle.fault.proofs.Steps.{never, then_ok, then_back, passed_unless}
 use Rattle.duty.specs.declared.records.Record.{Record}
@@ -21,7 +21,7 @@ enough h rs e = ltb-false _ _ (passed_unless (ltb (length rs) h.duties) _ _ tt (
 
 module _ (h : Head) (rs : List Record) (room d : ℕ) (good : Ok tt ≡ records_fault h rs) (is : d ≡ h.duties) (fits : d ≤ room) where
   fine : place_fault h rs room ≡ Ok tt
-  fine = then_ok _ (sym good) ∙ cond_false _ _ _ (le-ltb room h.duties (omega arith))
+  fine = then_ok _ (sym good) ∙ cond-false _ _ _ (le-ltb room h.duties (omega arith))
 
   cut : take (d - 0) rs ≡ take h.duties rs
   cut = ap (λ (k : ℕ). take k rs) (omega arith)

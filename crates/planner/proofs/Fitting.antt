@@ -2,7 +2,7 @@
 use Rattle.std.proofs.Common.{◌≡◌, ℕ, zero, suc, ◌+◌, ◌%◌, ◌<◌, ◌≤◌, Bool, true, cond, ◌&&◌, eqb, leb, List, [], ◌∷◌, length, get_or, Some, None, sym, refl, ap, ◌∙◌, arith}
 use Rattle.std.specs.Option.{option_map}
 use Rattle.std.specs.List.{AllByRecursion as All}
-use Rattle.std.proofs.lemmas.Bool.{cond_true, and_from, and_parts, le-leb}
+use Rattle.std.proofs.lemmas.Bool.{cond-true, and_from, and_parts, le-leb}
 use Rattle.duty.specs.declared.names.Name.{Name}
 use Rattle.duty.specs.declared.records.Record.{Record}
 use Rattle.duty.specs.declared.timings.Timing.{Timing}
@@ -21,7 +21,7 @@ Fits cycle r = in_cycle cycle r ≡ true
 pub no_misfit : (cycle : ℕ) (rs : List Record) → All (Fits cycle) rs → first_misfit cycle rs ≡ None
 no_misfit cycle [] h = refl
 no_misfit cycle (r ∷ rs) h =
-    cond_true (in_cycle cycle r) _ _ h.0 ∙ ap (option_map (λ i. i + 1)) (no_misfit cycle rs h.1)
+    cond-true (in_cycle cycle r) _ _ h.0 ∙ ap (option_map (λ i. i + 1)) (no_misfit cycle rs h.1)
 
 pub writable_fits : (form : Form) (cycle : ℕ) (rs : List Record) → All (Writable form cycle) rs → All (Fits cycle) rs
 writable_fits form cycle [] h = tt

@@ -1,5 +1,5 @@
 -- A plan by first-fit in which all duties were placed reads back from its text, and can be closed.
-use Rattle.std.proofs.Common.{◌≡◌, ℕ, ◌<◌, ◌≤◌, true, List, ◌++◌, length, get_or, take, drop, None, Ok, Option, sym, refl, ap, ◌∙◌, subst, ⊎_elim, arith, length_append}
+use Rattle.std.proofs.Common.{◌≡◌, ℕ, ◌<◌, ◌≤◌, true, List, ◌++◌, length, get_or, take, drop, None, Ok, Option, sym, refl, ap, ◌∙◌, subst, ⊎_elim, arith, length-append}
 use Rattle.std.specs.List.{AllByRecursion as All}
 use Rattle.std.proofs.ByRecursion.{All-get_or}
 use Rattle.std.proofs.lemmas.List.{take_at, get_or-take}
@@ -46,7 +46,7 @@ module _ (t : Sheet) (fs : List Record) (law : FirstFit (letter_passed t.head.le
 
     closable : Closable (letter_passed t.head.letter) t.head (fs ++ more)
     closable = record {
-      enough = omega (arith, length_append fs more, long);
+      enough = omega (arith, length-append fs more, long);
       duties = λ k l. ap (in_cycle t.head.cycle) (at_part k l) ∙ All-get_or (Fits t.head.cycle) fs k no_record (omega (arith, l, long)) fit;
       on_boards = λ k l. subst (λ (r : Record). (1 ≤ r.board) × (r.board ≤ t.head.boards)) (sym (at_part k l)) (law.all_on_boards refl k (omega (arith, l, valid.count)));
       passing = λ b l m. ap (λ (rs : List Record). letter_passed t.head.letter (on_board b rs) t.head.cycle) part ∙ passing b l m;

@@ -1,8 +1,8 @@
 -- The call's law, from the definitions of its three steps.
-use Rattle.std.proofs.Common.{◌≡◌, ℕ, ◌+◌, ◌<◌, ◌≤◌, List, ◌++◌, length, get_or, take, drop, Some, None, Ok, Err, Option, Result, refl, ap, ◌∙◌, subst, arith, length_append}
+use Rattle.std.proofs.Common.{◌≡◌, ℕ, ◌+◌, ◌<◌, ◌≤◌, List, ◌++◌, length, get_or, take, drop, Some, None, Ok, Err, Option, Result, refl, ap, ◌∙◌, subst, arith, length-append}
 use Rattle.std.specs.List.{AllByRecursion as All}
 use Rattle.std.proofs.lemmas.List.{take_at}
-use Rattle.std.proofs.lemmas.Bool.{cond_false, le-ltb}
+use Rattle.std.proofs.lemmas.Bool.{cond-false, le-ltb}
 use Rattle.fault.specs.declared.Fault.{Fault}
 use Rattle.fault.specs.Faults.{then}
 use Rattle.fault.proofs.Steps.{then_ok, then_err}
@@ -32,7 +32,7 @@ use Rattle.planner.proofs.GoodPlans.{good_plan}
 checked : (h : Head) (xs more : List Record) → length xs ≡ h.duties → All (Fits h.cycle) xs → records_fault h (xs ++ more) ≡ Ok tt
 checked h xs more long fit =
     let part : take h.duties (xs ++ more) ≡ xs = take_at xs more h.duties long in
-    cond_false _ _ _ (le-ltb (length (xs ++ more)) h.duties (omega (arith, length_append xs more)))
+    cond-false _ _ _ (le-ltb (length (xs ++ more)) h.duties (omega (arith, length-append xs more)))
     ∙ ap misfit_fault (ap (first_misfit h.cycle) part ∙ no_misfit h.cycle xs fit)
 
 module _ (t : Sheet) (more : List Record) (scratch room : ℕ) (valid : Valid Table t) (enough : t.head.duties ≤ scratch) (fits : text_length Plan t.head.duties ≤ room) where
@@ -50,7 +50,7 @@ module _ (t : Sheet) (more : List Record) (scratch room : ℕ) (valid : Valid Ta
 
   past : place_fault t.head (t.rows ++ more) scratch ≡ Ok tt
   past =
-      then_ok _ (checked t.head t.rows more valid.count good) ∙ cond_false _ _ _ (le-ltb scratch t.head.duties enough)
+      then_ok _ (checked t.head t.rows more valid.count good) ∙ cond-false _ _ _ (le-ltb scratch t.head.duties enough)
 
   answer_is : place_answer (letter_passed t.head.letter) t.head (t.rows ++ more) scratch ≡ placed_answer ff.1
   answer_is =
@@ -82,7 +82,7 @@ module _ (t : Sheet) (more : List Record) (scratch room : ℕ) (valid : Valid Ta
       let rest = drop t.head.duties (t.rows ++ more) in
       ap (λ rs. write_of Plan t.head rs room) after_is
       ∙ then_ok _ (checked t.head ff.0 rest long (fit all))
-      ∙ cond_false _ _ _ (le-ltb room (text_length Plan t.head.duties) fits)
+      ∙ cond-false _ _ _ (le-ltb room (text_length Plan t.head.duties) fits)
       ∙ ap (λ rs. Ok (text Plan (with_rows t rs))) (take_at ff.0 rest t.head.duties long)
 
   abbrev steps : Result (List ℕ) Fault

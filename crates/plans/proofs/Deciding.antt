@@ -1,7 +1,7 @@
 -- Closing is refused just where the plan is not one that can be closed.
 use Rattle.std.proofs.Common.{◌≡◌, ℕ, zero, suc, ◌+◌, ◌<◌, ◌≤◌, Bool, true, false, cond, ◌&&◌, ltb, leb, List, length, get_or, take, Some, None, Ok, Err, Option, Result, sym, refl, ap, ◌∙◌, ⊎_elim, arith}
 use Rattle.std.proofs.lemmas.List.{get_or-take, length-take-le}
-use Rattle.std.proofs.lemmas.Bool.{cases_eq, cond_true, cond_false, and_from, and_parts, le-leb, leb-true, ltb-false, le-ltb}
+use Rattle.std.proofs.lemmas.Bool.{cases_eq, cond-true, cond-false, and_from, and_parts, le-leb, leb-true, ltb-false, le-ltb}
 use Rattle.fault.specs.declared.Fault.{Fault}
 use Rattle.fault.specs.Faults.{then}
 use Rattle.fault.proofs.Steps.{never, then_ok, passed_unless, passed_where}
@@ -45,7 +45,7 @@ module _ (passes : List Timing → ℕ → Bool) (rs : List Record) (cycle : ℕ
   pub all_below : (b k : ℕ) → ((c : ℕ) → b ≤ c → c < b + k → board_passed passes rs c cycle ≡ true) → overfull_fault passes rs cycle b k ≡ Ok tt
   all_below b zero h = refl
   all_below b (suc k) h =
-      cond_true (board_passed passes rs b cycle) _ _ (h b (omega arith) (omega arith)) ∙ all_below (b + 1) k (λ c l m. h c (omega arith) (omega arith))
+      cond-true (board_passed passes rs b cycle) _ _ (h b (omega arith) (omega arith)) ∙ all_below (b + 1) k (λ c l m. h c (omega arith) (omega arith))
 
 module _ (passes : List Timing → ℕ → Bool) (h : Head) (rs : List Record) (few : h.duties ≤ most_duties) where
   part_long : h.duties ≤ length rs → length (take h.duties rs) ≡ h.duties
@@ -78,7 +78,7 @@ module _ (passes : List Timing → ℕ → Bool) (h : Head) (rs : List Record) (
       let long = part_long c.enough in
       let misfits = all_passing (in_cycle h.cycle) no_record (take h.duties rs) (λ k l. ap (in_cycle h.cycle) (at_part k (omega arith)) ∙ c.duties k (omega arith)) in
       let homes = all_passing (on_some h.boards) no_record (take h.duties rs) (λ k l. ap (on_some h.boards) (at_part k (omega arith)) ∙ and_from _ _ (le-leb _ _ (c.on_boards k (omega arith)).0) (le-leb _ _ (c.on_boards k (omega arith)).1)) in
-      then_ok _ (cond_false _ _ _ (le-ltb (length rs) h.duties c.enough) ∙ ap misfit_fault misfits)
+      then_ok _ (cond-false _ _ _ (le-ltb (length rs) h.duties c.enough) ∙ ap misfit_fault misfits)
       ∙ then_ok _ (ap homeless_fault homes)
       ∙ all_below passes (take h.duties rs) h.cycle 1 h.boards (λ b l m. passed_few passes (take h.duties rs) b h.cycle (omega arith) ∙ c.passing b l (omega arith))
 

@@ -1,7 +1,7 @@
 -- No element fails a test just where every one passes it.
 use Rattle.std.proofs.Common.{◌≡◌, ℕ, zero, suc, ◌+◌, ◌<◌, Bool, true, false, cond, List, [], ◌∷◌, length, get_or, Some, None, Option, refl, ap, ◌∙◌, arith}
 use Rattle.std.specs.Option.{option_map}
-use Rattle.std.proofs.lemmas.Bool.{cond_true}
+use Rattle.std.proofs.lemmas.Bool.{cond-true}
 use Rattle.duty.specs.Firsts.{first_failing}
 
 some_none : {A : Type 0} {x : A} → Some x ≡ None → ⊥
@@ -25,4 +25,4 @@ module _ {A : Type 0} (test : A → Bool) (d : A) where
   pub all_passing : (xs : List A) → ((k : ℕ) → k < length xs → test (get_or xs k d) ≡ true) → first_failing test xs ≡ None
   all_passing [] h = refl
   all_passing (x ∷ xs) h =
-      cond_true (test x) _ _ (h 0 (omega arith)) ∙ ap (option_map (λ i. i + 1)) (all_passing xs (λ k l. h (suc k) (omega arith)))
+      cond-true (test x) _ _ (h 0 (omega arith)) ∙ ap (option_map (λ i. i + 1)) (all_passing xs (λ k l. h (suc k) (omega arith)))

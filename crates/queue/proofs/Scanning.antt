@@ -2,7 +2,7 @@
 use Rattle.std.proofs.Common.{◌≡◌, ℕ, ◌+◌, ◌<◌, ◌≤◌, ltb, List, length, get_or, drop, set, None, Err, Option, sym, ap, ◌∙◌, ⊎_elim, arith}
 use Rattle.std.specs.Option.{option_map}
 use Rattle.std.proofs.lemmas.List.{at_drop_more, at_drop_all, set_past}
-use Rattle.std.proofs.lemmas.Bool.{cases_Bool, cond_true, ltb-false}
+use Rattle.std.proofs.lemmas.Bool.{cases_Bool, cond-true, ltb-false}
 use Rattle.fault.specs.declared.Fault.{Fault}
 use Rattle.fault.proofs.Steps.{never}
 use Rattle.queue.specs.First.{Due, earlier, scan, earliest}
@@ -20,6 +20,6 @@ scan_all held i best h inv = ap (option_map (λ e. e.place)) (sym (at_drop_all (
 pub refused_keeps : (held : List (Option ℕ)) (place : ℕ) (x : Option ℕ) (f : Fault) → length held ≡ places → Err f ≡ place_fault place → held ≡ set held place x
 refused_keeps held place x f wide e =
     ⊎_elim
-    (λ t. absurd (never (e ∙ cond_true (ltb place places) _ _ t)))
+    (λ t. absurd (never (e ∙ cond-true (ltb place places) _ _ t)))
     (λ t. sym (set_past held place x (omega (arith, ltb-false place places t))))
     (cases_Bool (ltb place places))

@@ -1,7 +1,7 @@
 -- The steps of the loops that look at the start of a text.
 use Rattle.std.proofs.Common.{◌≡◌, ℕ, zero, suc, ◌+◌, ◌<◌, ◌≤◌, true, false, cond, not, ◌&&◌, eqb, List, [], ◌∷◌, length, get_or, drop, sym, refl, ap, ◌∙◌, arith}
 use Rattle.std.proofs.lemmas.List.{at_drop_more, at_drop_all}
-use Rattle.std.proofs.lemmas.Bool.{cond_true, cond_false, and_left, and_right, eq-eqb, ne_eqb, not_from_true, not_from_false}
+use Rattle.std.proofs.lemmas.Bool.{cond-true, cond-false, and_left, and_right, eq-eqb, ne_eqb, not_from_true, not_from_false}
 use Rattle.columns.specs.Lines.{ends, matched}
 
 -- the end byte of a line
@@ -32,10 +32,10 @@ module _ (ws bs : List ℕ) (i : ℕ) (in_word : i < length ws) (in_text : i < l
       ∙ at_drop_more (λ (l : List ℕ). matched (get_or ws i 0 ∷ drop (i + 1) ws) l) bs i 0 in_text
 
   pub matched_more : get_or bs i 0 ≡ get_or ws i 0 → i + 1 + matched (drop (i + 1) ws) (drop (i + 1) bs) ≡ i + matched (drop i ws) (drop i bs)
-  matched_more e = let s = at_both ∙ cond_true _ _ _ (eq-eqb _ _ e) in omega arith
+  matched_more e = let s = at_both ∙ cond-true _ _ _ (eq-eqb _ _ e) in omega arith
 
   pub matched_stop : (get_or bs i 0 ≡ get_or ws i 0 → ⊥) → matched (drop i ws) (drop i bs) ≡ 0
-  matched_stop e = at_both ∙ cond_false _ _ _ (ne_eqb _ _ e)
+  matched_stop e = at_both ∙ cond-false _ _ _ (ne_eqb _ _ e)
 
 matched_none : (ws : List ℕ) → matched ws [] ≡ 0
 matched_none [] = refl

@@ -1,7 +1,7 @@
 -- What the cursor reads from the text, against what is said of the text from the cursor on.
 use Rattle.std.proofs.Common.{◌≡◌, ℕ, ◌+◌, ◌-◌, ◌<◌, ◌≤◌, true, false, cond, ◌&&◌, ltb, leb, ◌⊎◌, List, length, get_or, take, drop, Some, None, Ok, Err, Option, Result, sym, refl, ap, ◌∙◌, subst, ⊎_elim, arith, MatchOption}
 use Rattle.std.proofs.lemmas.List.{drop-drop, take_rest, get_or-drop}
-use Rattle.std.proofs.lemmas.Bool.{cond_true, cond_false, and_from, and_left, and_right, le-leb, lt-leb, lt-ltb, le-ltb}
+use Rattle.std.proofs.lemmas.Bool.{cond-true, cond-false, and_from, and_left, and_right, le-leb, lt-leb, lt-ltb, le-ltb}
 use Rattle.fault.specs.declared.Cause.TheVariants.{BadCharacter, OutOfRange}
 use Rattle.fault.specs.declared.Layer.TheVariants.{Field}
 use Rattle.fault.specs.Faults.{fault}
@@ -25,10 +25,10 @@ module _ (text : List ℕ) (pos line : ℕ) (f : declared.Field) where
 
 pub out_of_range : (f : declared.Field) (line n : ℕ) → (n < f.least) ⊎ ((f.least ≤ n) × (f.most < n)) → in_range f line (Some n) ≡ Err (fault OutOfRange line f.first Field)
 out_of_range f line n h =
-    cond_false (leb f.least n && leb n f.most) _ _ (⊎_elim (λ l. and_left _ _ (lt-leb _ _ l)) (λ l. and_right (leb f.least n) _ (lt-leb _ _ l.1)) h)
+    cond-false (leb f.least n && leb n f.most) _ _ (⊎_elim (λ l. and_left _ _ (lt-leb _ _ l)) (λ l. and_right (leb f.least n) _ (lt-leb _ _ l.1)) h)
 
 pub within_range : (f : declared.Field) (line n : ℕ) → (f.least ≤ n) × (n ≤ f.most) → in_range f line (Some n) ≡ Ok n
-within_range f line n h = cond_true (leb f.least n && leb n f.most) _ _ (and_from _ _ (le-leb _ _ h.0) (le-leb _ _ h.1))
+within_range f line n h = cond-true (leb f.least n && leb n f.most) _ _ (and_from _ _ (le-leb _ _ h.0) (le-leb _ _ h.1))
 
 -- a word
 
@@ -39,10 +39,10 @@ module _ (ws text : List ℕ) (pos line good : ℕ) (e : good ≡ matched ws (ta
   pub word_bad : good < length ws → Err (fault BadCharacter line (good + 1) Field) ≡ word_at ws line (drop pos text)
   word_bad h =
       let g = counted in
-      ap (λ (n : ℕ). Err (fault BadCharacter line (n + 1) Field)) g ∙ sym (cond_true _ _ _ (lt-ltb (matched ws (drop pos text)) (length ws) (omega (arith, g))))
+      ap (λ (n : ℕ). Err (fault BadCharacter line (n + 1) Field)) g ∙ sym (cond-true _ _ _ (lt-ltb (matched ws (drop pos text)) (length ws) (omega (arith, g))))
 
   pub word_good : length ws ≤ good → Ok tt ≡ word_at ws line (drop pos text)
-  word_good h = let g = counted in sym (cond_false _ _ _ (le-ltb (matched ws (drop pos text)) (length ws) (omega (arith, g))))
+  word_good h = let g = counted in sym (cond-false _ _ _ (le-ltb (matched ws (drop pos text)) (length ws) (omega (arith, g))))
 
 -- a letter
 
@@ -55,12 +55,12 @@ module _ (text name : List ℕ) (pos line good : ℕ) (here : name ≡ take 8 (d
   pub name_bad : good < 8 → Err (fault BadCharacter line (good + 1) Field) ≡ name_at pos line (drop pos text)
   name_bad h =
       let g : good ≡ name_in (take 8 (drop pos text)) = e ∙ ap name_in here in
-      ap (λ (n : ℕ). Err (fault BadCharacter line (n + 1) Field)) g ∙ sym (cond_true _ _ _ (lt-ltb (name_in (take 8 (drop pos text))) 8 (omega (arith, g))))
+      ap (λ (n : ℕ). Err (fault BadCharacter line (n + 1) Field)) g ∙ sym (cond-true _ _ _ (lt-ltb (name_in (take 8 (drop pos text))) 8 (omega (arith, g))))
 
   pub name_good : 8 ≤ good → Ok (record { bytes = name; place = pos }) ≡ name_at pos line (drop pos text)
   name_good h =
       let g : good ≡ name_in (take 8 (drop pos text)) = e ∙ ap name_in here in
-      ap (λ (l : List ℕ). Ok (record { bytes = l; place = pos })) here ∙ sym (cond_false _ _ _ (le-ltb (name_in (take 8 (drop pos text))) 8 (omega (arith, g))))
+      ap (λ (l : List ℕ). Ok (record { bytes = l; place = pos })) here ∙ sym (cond-false _ _ _ (le-ltb (name_in (take 8 (drop pos text))) 8 (omega (arith, g))))
 
 -- what is said of an option that holds something
 pub at_some : {T : Type 0} {o : Option T} {x : T} (P : Type 0) (Q : T → Type 0) → o ≡ Some x → MatchOption o P Q → Q x

@@ -1,7 +1,7 @@
 -- The loop over the lines of a text, and the text as its header and its lines.
 use Rattle.std.proofs.Common.{◌≡◌, ℕ, zero, suc, ◌+◌, ◌-◌, ◌<◌, ◌≤◌, cond, ltb, List, [], ◌∷◌, ◌++◌, length, take, drop, set, Ok, Err, Result, sym, refl, ap, ◌∙◌, append_assoc, append-nil, arith}
 use Rattle.std.proofs.lemmas.List.{take_more_set, drop-drop}
-use Rattle.std.proofs.lemmas.Bool.{cond_true, cond_false, lt-ltb, le-ltb}
+use Rattle.std.proofs.lemmas.Bool.{cond-true, cond-false, lt-ltb, le-ltb}
 use Rattle.fault.specs.declared.Cause.TheVariants.{TrailingBytes}
 use Rattle.fault.specs.declared.Fault.{Fault}
 use Rattle.fault.specs.declared.Layer.TheVariants as layer
@@ -70,19 +70,19 @@ module _ (form : Form) (cycle : ℕ) where
 
   -- past the last line
   pub bytes_left : (place line : ℕ) (bs : List ℕ) (xs : List Record) → 0 < length bs → before xs (records_of form 0 cycle place line bs) ≡ Err (fault TrailingBytes line 1 layer.Table)
-  bytes_left place line bs xs h = ap (before xs) (cond_true _ _ _ (lt-ltb 0 (length bs) h))
+  bytes_left place line bs xs h = ap (before xs) (cond-true _ _ _ (lt-ltb 0 (length bs) h))
 
   pub none_left : (place line : ℕ) (bs : List ℕ) (xs : List Record) → length bs ≤ 0 → before xs (records_of form 0 cycle place line bs) ≡ Ok xs
-  none_left place line bs xs h = ap (before xs) (cond_false _ _ _ (le-ltb 0 (length bs) h)) ∙ ap Ok (append-nil xs)
+  none_left place line bs xs h = ap (before xs) (cond-false _ _ _ (le-ltb 0 (length bs) h)) ∙ ap Ok (append-nil xs)
 
 -- a whole text, by its header and its lines
 
 module _ (form : Form) (room : ℕ) (text : List ℕ) (h : Head) (e : Ok h ≡ header_line form 1 text) (fits : h.duties ≤ room) where
   pub sheet_refused : (f : Fault) → Err f ≡ records_of form h.duties h.cycle 21 2 (drop 21 text) → sheet_of form room text ≡ Err f
-  sheet_refused f k = then_ok _ (sym e) ∙ cond_false _ _ _ (le-ltb room h.duties fits) ∙ then_err _ (sym k)
+  sheet_refused f k = then_ok _ (sym e) ∙ cond-false _ _ _ (le-ltb room h.duties fits) ∙ then_err _ (sym k)
 
   pub sheet_read : (rs : List Record) → Ok rs ≡ records_of form h.duties h.cycle 21 2 (drop 21 text) → sheet_of form room text ≡ Ok (record { head = h; rows = rs })
-  sheet_read rs k = then_ok _ (sym e) ∙ cond_false _ _ _ (le-ltb room h.duties fits) ∙ then_ok _ (sym k)
+  sheet_read rs k = then_ok _ (sym e) ∙ cond-false _ _ _ (le-ltb room h.duties fits) ∙ then_ok _ (sym k)
 
 -- where the cursor stands before the header and after it
 

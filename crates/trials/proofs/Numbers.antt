@@ -2,7 +2,7 @@
 use Rattle.std.proofs.Common.{◌≡◌, ℕ, zero, suc, ◌-◌, ◌^◌, ◌<◌, ◌≤◌, true, leb, List, [], ◌∷◌, ◌++◌, length, get_or, replicate, Some, None, decimal, Option, sym, refl, ap, ◌∙◌, subst, ⊎_elim, arith}
 use Rattle.std.proofs.lemmas.Fmt.{decimal_digit, first_decimal, length-decimal-le}
 use Rattle.std.proofs.lemmas.List.Prefix.{front_rest}
-use Rattle.std.proofs.lemmas.Bool.{cases_Bool, cases_eq, cond_true, cond_false, leb-true, le-leb}
+use Rattle.std.proofs.lemmas.Bool.{cases_Bool, cases_eq, cond-true, cond-false, leb-true, le-leb}
 use Rattle.columns.specs.Numerals.{widest, numeral, number_in, justified}
 use Rattle.columns.proofs.Justified.{small, length_justified, number_only, number_back}
 use Rattle.trials.specs.Commands.{Reads, Short}
@@ -27,9 +27,9 @@ number_of_decimal : (n : ℕ) → Short n → number_in (decimal n) ≡ Some n
 number_of_decimal n s =
     let wide = length_justified 9 n (omega arith) (omega arith) s in
     let narrow = length-decimal-le 9 n (omega arith) s (omega arith) in
-    cond_true (leb (length (decimal n)) widest) _ _ (le-leb _ _ narrow)
+    cond-true (leb (length (decimal n)) widest) _ _ (le-leb _ _ narrow)
     ∙ sym (numeral_blanks (9 - length (decimal n)) (decimal n))
-    ∙ sym (cond_true (leb (length (justified 9 n)) widest) _ _ (le-leb _ _ (omega (arith, wide))))
+    ∙ sym (cond-true (leb (length (justified 9 n)) widest) _ _ (le-leb _ _ (omega (arith, wide))))
     ∙ number_back 9 n (omega arith) (omega arith) s
 
 no_blanks : (k : ℕ) (ds bs : List ℕ) → bs ≡ replicate k 32 ++ ds → (get_or bs 0 0 ≡ 32 → ⊥) → ds ≡ bs
@@ -40,7 +40,7 @@ few_columns : (bs : List ℕ) (n : ℕ) → number_in bs ≡ Some n → length b
 few_columns bs n e =
     ⊎_elim
     (λ few. leb-true (length bs) widest few)
-    (λ wide. absurd (never (sym (cond_false (leb (length bs) widest) _ _ wide) ∙ e)))
+    (λ wide. absurd (never (sym (cond-false (leb (length bs) widest) _ _ wide) ∙ e)))
     (cases_Bool (leb (length bs) widest))
 
 -- where no blank stands first, a number field's reading is that of the digits alone

@@ -3,7 +3,7 @@ use Rattle.std.proofs.Common.{◌≡◌, ℕ, ◌%◌, ◌≤◌, true, false, �
 use Rattle.std.specs.Option.{option_map}
 use Rattle.std.specs.List.{AllByRecursion as All}
 use Rattle.std.proofs.ByRecursion.{All-weaker}
-use Rattle.std.proofs.lemmas.Bool.{cases_Bool, cond_true, cond_false, and_parts, and_from, leb-true, le-leb, ltb-false, le-ltb}
+use Rattle.std.proofs.lemmas.Bool.{cases_Bool, cond-true, cond-false, and_parts, and_from, leb-true, le-leb, ltb-false, le-ltb}
 use Rattle.fault.proofs.Steps.{never, passed_unless, then_ok}
 use Rattle.duty.specs.declared.records.Record.{Record}
 use Rattle.duty.specs.Heads.{Head, head_limits}
@@ -37,8 +37,8 @@ no_misfit : (cycle : ℕ) (rs : List Record) → first_misfit cycle rs ≡ None 
 no_misfit cycle [] e = tt
 no_misfit cycle (r ∷ rs) e =
     ⊎_elim
-    (λ good. (good, no_misfit cycle rs (mapped_none _ _ (sym (cond_true (in_cycle cycle r) _ _ good) ∙ e))))
-    (λ bad. absurd (some_place (sym (cond_false (in_cycle cycle r) _ _ bad) ∙ e)))
+    (λ good. (good, no_misfit cycle rs (mapped_none _ _ (sym (cond-true (in_cycle cycle r) _ _ good) ∙ e))))
+    (λ bad. absurd (some_place (sym (cond-false (in_cycle cycle r) _ _ bad) ∙ e)))
     (cases_Bool (in_cycle cycle r))
 
 misfit_none : (o : Option ℕ) → misfit_fault o ≡ Ok tt → o ≡ None
@@ -89,4 +89,4 @@ module _ (h : Head) (rs : List Record) (ok : records_fault h rs ≡ Ok tt) where
   all_fitting = All-weaker (λ r. in_cycle h.cycle r ≡ true) Fitting (fitting h.cycle) (take h.duties rs) all_duties
 
   pub write_ok : (form : Form) (room : ℕ) → text_length form h.duties ≤ room → write_of form h rs room ≡ Ok (text form (sheet h rs))
-  write_ok form room fits = then_ok _ ok ∙ cond_false _ _ _ (le-ltb room (text_length form h.duties) fits)
+  write_ok form room fits = then_ok _ ok ∙ cond-false _ _ _ (le-ltb room (text_length form h.duties) fits)

@@ -1,5 +1,5 @@
 -- A line's fields, put at their columns, are the line's text.
-use Rattle.std.proofs.Common.{◌≡◌, ℕ, ◌+◌, ◌-◌, ◌≤◌, true, List, [], ◌∷◌, ◌++◌, length, sym, refl, ap, ◌∙◌, subst, append_assoc, append-nil, arith, length_append}
+use Rattle.std.proofs.Common.{◌≡◌, ℕ, ◌+◌, ◌-◌, ◌≤◌, true, List, [], ◌∷◌, ◌++◌, length, sym, refl, ap, ◌∙◌, subst, append_assoc, append-nil, arith, length-append}
 use Rattle.std.specs.List.{flat_map}
 use Rattle.duty.specs.declared.records.Record.{Record}
 use Rattle.duty.specs.Heads.{Head, head_limits}
@@ -41,8 +41,8 @@ pieces_put pos [] xs was out e on room = e ∙ ap (λ (l : List ℕ). put pos l 
 pieces_put pos (p ∷ ps) xs was out e on room =
     let here = on.0 in
     let ys = p.bytes in
-    let split = length_append ys (all_bytes ps) in
-    let long = length_append xs ys in
+    let split = length-append ys (all_bytes ps) in
+    let long = length-append xs ys in
     let more = next_field pos p.first xs ys was out e (omega arith) (omega arith) in
     pieces_put pos ps (xs ++ ys) (put_bytes pos p.first ys was) out more (subst (λ (n : ℕ). Adjoin n ps) (sym long) on.1) (omega arith)
     ∙ ap (λ (l : List ℕ). put pos l out) (append_assoc xs ys (all_bytes ps))
@@ -52,7 +52,7 @@ pieces_first pos ps out on room = pieces_put pos ps [] out out (sym (put_nothing
 
 length_pieces : (ps : List Piece) → length (all_bytes ps) ≡ total (λ p. length p.bytes) ps
 length_pieces [] = refl
-length_pieces (p ∷ ps) = length_append p.bytes (all_bytes ps) ∙ ap (λ (n : ℕ). length p.bytes + n) (length_pieces ps)
+length_pieces (p ∷ ps) = length-append p.bytes (all_bytes ps) ∙ ap (λ (n : ℕ). length p.bytes + n) (length_pieces ps)
 
 abbrev piece : ℕ → List ℕ → Piece
 piece first bytes = record { first = first; bytes = bytes }

@@ -1,16 +1,16 @@
 -- Bytes put into the output, one part after another.
-use Rattle.std.proofs.Common.{◌≡◌, ℕ, ◌+◌, ◌-◌, ◌^◌, ◌<◌, ◌≤◌, Bool, true, cond, leb, List, [], ◌++◌, length, take, drop, decimal, sym, ap, ◌∙◌, append_assoc, append-nil, add-zero, zero-add, arith, length_append, length-drop, length-take}
+use Rattle.std.proofs.Common.{◌≡◌, ℕ, ◌+◌, ◌-◌, ◌^◌, ◌<◌, ◌≤◌, Bool, true, cond, leb, List, [], ◌++◌, length, take, drop, decimal, sym, ap, ◌∙◌, append_assoc, append-nil, add-zero, zero-add, arith, length-append, length-drop, length-take}
 use borrow.Rule.Slice.PartMut.{put_mid}
 use Rattle.std.proofs.lemmas.Fmt.{length-decimal-le}
 use Rattle.std.proofs.lemmas.List.{take_rest, drop_all, drop-drop, take_at, drop_at, take-append-drop}
-use Rattle.std.proofs.lemmas.Bool.{and_from, le-leb, cond_true}
+use Rattle.std.proofs.lemmas.Bool.{and_from, le-leb, cond-true}
 use Rattle.columns.specs.Numerals.{justified, fits_in, widest}
 use Rattle.columns.proofs.Justified.{length_justified, small}
 use Rattle.writer.specs.Puts.{put, put_bytes}
 
 -- the output keeps its length
 length_put : (i : ℕ) (bs out : List ℕ) → i + length bs ≤ length out → length (put i bs out) ≡ length out
-length_put i bs out room = simp (length_append, length-drop, length-take) (omega arith)
+length_put i bs out room = simp (length-append, length-drop, length-take) (omega arith)
 
 length_put_bytes : (pos first : ℕ) (bs out : List ℕ) → pos + (first - 1) + length bs ≤ length out → length (put_bytes pos first bs out) ≡ length out
 unfolding put_bytes
@@ -55,7 +55,7 @@ module _ (i w n pos first : ℕ) (out rest : List ℕ) (ok : Bool) (at : i ≡ p
   number_is =
       let part = take (length out - i) (drop i out) in
       let long : w ≤ length part = omega (arith, ap length (take_rest out i), length-drop i out) in
-      rest_is i w (justified w n) out rest (length_justified w n some few below) (after ∙ cond_true ok _ _ (answer ∙ number_fits w n part some few below long))
+      rest_is i w (justified w n) out rest (length_justified w n some few below) (after ∙ cond-true ok _ _ (answer ∙ number_fits w n part some few below long))
       ∙ ap (λ (k : ℕ). put k (justified w n) out) at
 
   pub number_long : length (put_mid i (length out - i) out rest) ≡ length out
@@ -66,13 +66,13 @@ pub put_put : (i n : ℕ) (xs ys out : List ℕ) → n ≡ i + length xs → i +
 put_put i n xs ys out e room =
     let front : List ℕ = take i out ++ xs in
     let rest : List ℕ = drop (i + length xs) out in
-    let long : length front ≡ n = length_append (take i out) xs ∙ omega (arith, length-take i out) in
+    let long : length front ≡ n = length-append (take i out) xs ∙ omega (arith, length-take i out) in
     let split : put i xs out ≡ front ++ rest = sym (append_assoc (take i out) xs rest) in
     let past : drop (n + length ys) (front ++ rest) ≡ drop (i + length (xs ++ ys)) out =
     sym (drop-drop (length ys) n (front ++ rest))
     ∙ ap (drop (length ys)) (drop_at front rest n long)
     ∙ drop-drop (length ys) (i + length xs) out
-    ∙ ap (λ (m : ℕ). drop m out) (omega (arith, length_append xs ys)) in
+    ∙ ap (λ (m : ℕ). drop m out) (omega (arith, length-append xs ys)) in
     ap (put n ys) split
     ∙ ap (λ (l : List ℕ). l ++ (ys ++ drop (n + length ys) (front ++ rest))) (take_at front rest n long)
     ∙ ap (λ (l : List ℕ). front ++ (ys ++ l)) past

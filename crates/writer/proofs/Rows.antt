@@ -1,5 +1,5 @@
 -- One line after another, from the header on.
-use Rattle.std.proofs.Common.{◌≡◌, ℕ, ◌+◌, ◌*◌, ◌<◌, ◌≤◌, List, [], ◌++◌, length, get_or, take, sym, ap, ◌∙◌, mul-le-mul_left, mul-one, mul-add, arith, length_append}
+use Rattle.std.proofs.Common.{◌≡◌, ℕ, ◌+◌, ◌*◌, ◌<◌, ◌≤◌, List, [], ◌++◌, length, get_or, take, sym, ap, ◌∙◌, mul-le-mul_left, mul-one, mul-add, arith, length-append}
 use Rattle.std.specs.List.{flat_map}
 use Rattle.std.proofs.lemmas.List.{take_more, flat_map_more}
 use Rattle.duty.specs.declared.records.Record.{Record}
@@ -28,7 +28,7 @@ module _ (form : Form) (rs : List Record) (i : ℕ) (d : Record) (within : i < l
     pub full_more : length (flat_map (line_text form) (take (i + 1) rs)) ≡ (line_width form + 1) * (i + 1)
     full_more =
         ap length lines_more
-        ∙ length_append (flat_map (line_text form) (take i rs)) (line_text form (get_or rs i d))
+        ∙ length-append (flat_map (line_text form) (take i rs)) (line_text form (get_or rs i d))
         ∙ omega (arith, length_line (get_or rs i d) fits sized form, times_more (line_width form + 1) i)
 
     pub put_more : (pos : ℕ) (was after : List ℕ) → was ≡ put start (flat_map (line_text form) (take i rs)) out → length was ≡ length out → pos ≡ start + (line_width form + 1) * i → after ≡ put_line form (get_or rs i d) pos was → after ≡ put start (flat_map (line_text form) (take (i + 1) rs)) out

@@ -1,4 +1,4 @@
-use Rattle.std.proofs.Common.{◌≡◌, ◌+◌, ◌++◌, length, get_or, take, drop, sym, ap, ◌∙◌, append-nil, arith, length_append, length-set}
+use Rattle.std.proofs.Common.{◌≡◌, ◌+◌, ◌++◌, length, get_or, take, drop, sym, ap, ◌∙◌, append-nil, arith, length-append, length-set}
 use Rattle.std.proofs.lemmas.List.{at_drop_all, length-take-le}
 use Rattle.boards.specs.Lists.{on_board, no_record}
 use Rattle.boards.proofs.Collecting.{collects, passes_by, too_many}
@@ -11,7 +11,7 @@ returns-then-n-list c =
     let rs = c.args.records.now in
     let old = c.args.list.now in
     let many = too_many rs c.args.board l.record-index _ c.loop-record-test.true l.list _ l.n c.if-n-list.true c.if-record-board.true l.invariant.1 in
-    let parts = length_append (take c.args.from old) (on_board c.args.board rs) in
+    let parts = length-append (take c.args.from old) (on_board c.args.board rs) in
     omega (arith, many, parts, length-take-le c.args.from old c.requires)
 
 pub loop-record-preserved : goal.loop-record-preserved

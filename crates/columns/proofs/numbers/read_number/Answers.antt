@@ -1,6 +1,6 @@
 use Rattle.std.proofs.Common.{◌≡◌, length, drop, sym, ap, ◌∙◌, arith}
 use Rattle.std.proofs.lemmas.List.{take_rest}
-use Rattle.std.proofs.lemmas.Bool.{cond_true, cond_false, le-leb, lt-leb}
+use Rattle.std.proofs.lemmas.Bool.{cond-true, cond-false, le-leb, lt-leb}
 use Rattle.columns.specs.Numerals.{plain, numeral, number_in}
 use Rattle.columns.proofs.Justified.{both_ways}
 use Rattle.columns.proofs.Reading.{numeral_more, numeral_stop, numeral_end}
@@ -9,7 +9,7 @@ use Rattle.columns.proofs.numbers.read_number.Goals.{then-loop-i-test+else-colum
 
 pub returns-then-columns-gt-WIDEST : goal.returns-then-columns-gt-WIDEST
 returns-then-columns-gt-WIDEST c =
-    record { answer = sym (cond_false _ _ _ (lt-leb (length c.args.columns.now) 9 c.if-columns-gt-WIDEST.true)); law = both_ways }
+    record { answer = sym (cond-false _ _ _ (lt-leb (length c.args.columns.now) 9 c.if-columns-gt-WIDEST.true)); law = both_ways }
 
 pub loop-i-preserved : goal.loop-i-preserved
 loop-i-preserved c =
@@ -23,6 +23,6 @@ returns c =
       | else-loop-i-test w ↦ numeral_end bs c.loop-i.i w.loop-i-test.false ∙ c.loop-i.invariant.1
     ] in
     record {
-      answer = c.plain-value.ensures ∙ ap plain (take_rest bs c.loop-i.i) ∙ read ∙ sym (cond_true _ _ _ (le-leb (length bs) 9 c.if-columns-gt-WIDEST.false));
+      answer = c.plain-value.ensures ∙ ap plain (take_rest bs c.loop-i.i) ∙ read ∙ sym (cond-true _ _ _ (le-leb (length bs) 9 c.if-columns-gt-WIDEST.false));
       law = both_ways;
     }

@@ -1,4 +1,4 @@
-use Rattle.std.proofs.Common.{◌≡◌, ap, ◌∙◌, arith, length_append}
+use Rattle.std.proofs.Common.{◌≡◌, ap, ◌∙◌, arith, length-append}
 use Rattle.std.specs.List.{flat_map}
 use Rattle.duty.specs.Heads.{head}
 use Rattle.columns.specs.Texts.{header_text, line_text}
@@ -29,7 +29,7 @@ returns c =
     let rows = flat_map (line_text form) c.args.records.now in
     record {
       value = rest.value ∙ ap (put c.header.new.self.pos rows) line ∙ put_put pos c.header.new.self.pos (header_text form h) rows out (omega arith) (omega arith);
-      full = length_append (header_text form h) rows ∙ omega arith;
+      full = length-append (header_text form h) rows ∙ omega arith;
       long = rest.long ∙ first.long;
       moves = omega arith;
       sized = rest.sized;
