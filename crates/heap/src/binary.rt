@@ -21,7 +21,7 @@ impl<'a, T: Entry> Heap<'a, T> {
     // A heap that holds nothing.
     pub fn new(slots: &'a mut [T]) -> Self
         ensures held { held result ≡ [] }
-        ensures heaped { Heaped upto (held result) }
+        ensures heaped { Heaped T.upto (held result) }
         ensures memory { memory result ≡ slots.old }
         ensures named { result.slots.ghost_name ≡ slots.entry.ghost_name }
     {
@@ -65,7 +65,7 @@ impl<'a, T: Entry> Heap<'a, T> {
     // Forgets every entry.
     pub fn clear(&mut self)
         ensures held { held self.new ≡ [] }
-        ensures heaped { Heaped upto (held self.new) }
+        ensures heaped { Heaped T.upto (held self.new) }
         ensures memory { memory self.new ≡ memory self.old }
         ensures named { self.new.slots.ghost_name ≡ self.old.slots.ghost_name }
     {
@@ -75,7 +75,7 @@ impl<'a, T: Entry> Heap<'a, T> {
     // The entry that `pop` would take out.
     pub fn peek(&self) -> Option<T>
         ensures answer { result ≡ slice_get (held self.now) 0 }
-        ensures least { Heaped upto (held self.now) → IfSome result (λ x. Least upto x (held self.now)) }
+        ensures least { Heaped T.upto (held self.now) → IfSome result (λ x. Least T.upto x (held self.now)) }
     {
         let n = self.len();
         if n == 0 {
@@ -87,7 +87,7 @@ impl<'a, T: Entry> Heap<'a, T> {
     // Takes in one entry more; false, and nothing changed, where there is no room.
     pub fn push(&mut self, x: T) -> bool
         ensures pushed { Pushed x self.old result self.new }
-        ensures heaped { Heaped upto (held self.old) → Heaped upto (held self.new) }
+        ensures heaped { Heaped T.upto (held self.old) → Heaped T.upto (held self.new) }
         ensures named { self.new.slots.ghost_name ≡ self.old.slots.ghost_name }
     {
         let n = self.len();
@@ -103,7 +103,7 @@ impl<'a, T: Entry> Heap<'a, T> {
     // Takes out the entry at i, as they stand in the slots; None, and nothing changed, where there is none.
     pub fn remove(&mut self, i: usize) -> Option<T>
         ensures removed { Removed i self.old result self.new }
-        ensures heaped { Heaped upto (held self.old) → Heaped upto (held self.new) }
+        ensures heaped { Heaped T.upto (held self.old) → Heaped T.upto (held self.new) }
         ensures named { self.new.slots.ghost_name ≡ self.old.slots.ghost_name }
     {
         let n = self.len();
@@ -119,7 +119,7 @@ impl<'a, T: Entry> Heap<'a, T> {
     // Takes out an entry that may leave before all others.
     pub fn pop(&mut self) -> Option<T>
         ensures removed { Removed 0 self.old result self.new }
-        ensures leaves { Heaped upto (held self.old) → Leaves key upto (held self.old) result (held self.new) }
+        ensures leaves { Heaped T.upto (held self.old) → Leaves T.key T.upto (held self.old) result (held self.new) }
         ensures named { self.new.slots.ghost_name ≡ self.old.slots.ghost_name }
     {
         self.remove(0)
@@ -129,8 +129,8 @@ impl<'a, T: Entry> Heap<'a, T> {
     pub fn pop_into(&mut self, out: &mut [T]) -> usize
         ensures count { result ≡ min (length (held self.old)) (length out.old) }
         ensures moved { Moved self.old out.old result self.new out.new }
-        ensures in_order { Heaped upto (held self.old) → InOrder key upto (held self.old) (take result out.new) (held self.new) }
-        ensures sorted { SortedLaws key upto }
+        ensures in_order { Heaped T.upto (held self.old) → InOrder T.key T.upto (held self.old) (take result out.new) (held self.new) }
+        ensures sorted { SortedLaws T.key T.upto }
         ensures named { self.new.slots.ghost_name ≡ self.old.slots.ghost_name }
     {
         let mut n = 0;

@@ -9,7 +9,7 @@ use crate::entry::Entry;
 // Whether the entry at i may leave before the one at j.
 fn in_order<T: Entry>(s: &[T], i: usize, j: usize) -> bool
     requires { (i < length s.now) × (j < length s.now) }
-    ensures { (d : T) → upto (slice_index_or s.now i d) (slice_index_or s.now j d) ≡ result }
+    ensures { (d : T) → T.upto (slice_index_or s.now i d) (slice_index_or s.now j d) ≡ result }
 {
     s[i].precedes(&s[j])
 }
@@ -18,7 +18,7 @@ fn in_order<T: Entry>(s: &[T], i: usize, j: usize) -> bool
 fn lesser_child<T: Entry>(s: &[T], j: usize) -> usize
     requires { j * 2 + 1 < length s.now }
     ensures child { (j * 2 + 1 ≤ result) × (result ≤ j * 2 + 2) × (result < length s.now) }
-    ensures lesser { Lesser upto s.now j result }
+    ensures lesser { Lesser T.upto s.now j result }
 {
     let left = j * 2 + 1;
     let right = left + 1;
@@ -36,7 +36,7 @@ fn lesser_child<T: Entry>(s: &[T], j: usize) -> usize
 pub(crate) fn sift_up<T: Entry>(s: &mut [T], at: usize)
     requires { at < length s.old }
     ensures shuffled { IsPermutation s.old s.new }
-    ensures heaped { Rising upto s.old at → Heaped upto s.new }
+    ensures heaped { Rising T.upto s.old at → Heaped T.upto s.new }
 {
     let mut j = at;
     while 0 < j {
@@ -54,7 +54,7 @@ fn sift_down<T: Entry>(s: &mut [T], at: usize) -> usize
     requires { at < length s.old }
     ensures within { result < length s.old }
     ensures shuffled { IsPermutation s.old s.new }
-    ensures rising { Gap upto s.old at → Rising upto s.new result }
+    ensures rising { Gap T.upto s.old at → Rising T.upto s.new result }
 {
     let mut j = at;
     while j < s.len() / 2 {
@@ -71,7 +71,7 @@ fn sift_down<T: Entry>(s: &mut [T], at: usize) -> usize
 // Puts the entry at `at`, if there is one, where it belongs.
 fn settle<T: Entry>(s: &mut [T], at: usize)
     ensures shuffled { IsPermutation s.old s.new }
-    ensures heaped { Gap upto s.old at → Heaped upto s.new }
+    ensures heaped { Gap T.upto s.old at → Heaped T.upto s.new }
 {
     if at >= s.len() {
         return;
@@ -85,7 +85,7 @@ pub(crate) fn move_out<T: Entry>(s: &mut [T], i: usize)
     requires { i < length s.old }
     ensures shuffled { IsPermutation s.old s.new }
     ensures last { (d : T) → slice_index_or s.new (length s.old - 1) d ≡ slice_index_or s.old i d }
-    ensures heaped { Heaped upto s.old → Heaped upto (take (length s.old - 1) s.new) }
+    ensures heaped { Heaped T.upto s.old → Heaped T.upto (take (length s.old - 1) s.new) }
 {
     let last = s.len() - 1;
     s.swap(i, last);

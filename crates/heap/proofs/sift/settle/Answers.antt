@@ -13,6 +13,6 @@ returns-then-at-s g c = record {
 
 pub returns : goal.returns
 returns g c = record {
-  shuffled = IsPermutation-trans _ _ _ c.sift-down-j.ensures.shuffled c.sift-up.ensures.shuffled;
-  heaped = λ h. c.sift-up.ensures.heaped (c.sift-down-j.ensures.rising h);
+  shuffled = IsPermutation-trans _ _ _ c.sift_down-j.ensures.shuffled c.sift_up.ensures.shuffled;
+  heaped = λ h. c.sift_up.ensures.heaped (c.sift_down-j.ensures.rising h);
 }

@@ -4,16 +4,16 @@ use Rattle.heap.specs.Sifting.{Lesser}
 use Rattle.heap.proofs.Sifting.{falls, rests}
 use Rattle.heap.proofs.sift.sift_down.Goals as goal
 
-pub returns-then-in-order : goal.returns-then-in-order
+pub returns-then-in_order : goal.returns-then-in_order
 unfolding Lesser
-returns-then-in-order g c =
+returns-then-in_order g c =
     let m = g.met.T.Entry in
     let l = c.loop-j in
     record {
       within = omega arith;
       shuffled = l.invariant.1;
       rising = λ h. rests g.T.Entry.upto m.total l.s l.j
-          (λ k d a b f. m.chain _ _ _ (let t = c.in-order.ensures d in cc) (c.lesser-child-child.ensures.lesser k d a b f))
+          (λ k d a b f. m.chain _ _ _ (let t = c.in_order.ensures d in cc) (c.lesser_child-child.ensures.lesser k d a b f))
           (l.invariant.2 h);
     }
 
@@ -22,10 +22,10 @@ loop-j-preserved g c =
     let m = g.met.T.Entry in
     let l = c.loop-j in
     let w = c.swap.ensures in
-    let b = c.lesser-child-child.ensures in (
+    let b = c.lesser_child-child.ensures in (
       omega arith,
       IsPermutation-trans _ _ _ l.invariant.1 w.permutation,
-      λ h. falls g.T.Entry.upto m.total m.chain l.s c.swap.new.self l.j c.lesser-child-child.result w.len b.child.0 b.child.1 b.child.2 (w.by_index.0, w.by_index.1, w.by_index.2) b.lesser (l.invariant.2 h),
+      λ h. falls g.T.Entry.upto m.total m.chain l.s c.swap.new.self l.j c.lesser_child-child.result w.len b.child.0 b.child.1 b.child.2 (w.by_index.0, w.by_index.1, w.by_index.2) b.lesser (l.invariant.2 h),
     )
 
 pub returns : goal.returns

@@ -10,14 +10,14 @@ pub loop-n-init : goal.loop-n-init
 loop-n-init g c = (omega arith, none_moved _ _, refl, none_gone g.T.Entry.key g.T.Entry.upto _)
 
 -- nothing was left to take out
-pub returns-in-default : goal.returns-in-default
-returns-in-default g c =
+pub returns-in_default : goal.returns-in_default
+returns-in_default g c =
     let o = g.T.Entry in
     let m = g.met.T.Entry in
     let l = c.loop-n in
     let before = c.args.self.now in
     let next = c.pop.new.self in
-    let e = c.in-default.ensures in
+    let e = c.in_default.ensures in
     let empty : length (held l.self) ≡ 0 = none_left (held l.self) e.removed.which in
     let all = moved_count before c.args.out.now l.n l.self next l.out l.invariant.1 l.invariant.0 in
     record {

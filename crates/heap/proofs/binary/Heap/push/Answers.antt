@@ -9,9 +9,9 @@ returns g c =
     let h = c.args.self.now in
     let xs = memory h in
     let n = c.len-n.result in
-    let ys = c.sift-up.new.s in
+    let ys = c.sift_up.new.s in
     let e = c.len-n.ensures in
-    let up = c.sift-up.ensures in
+    let up = c.sift_up.ensures in
     let room : n < length xs = omega arith in
     record {
       pushed = record {

@@ -25,9 +25,9 @@ returns g c =
     let hs = take h.len xs in
     let n = c.len-n.result in
     let i = c.args.i in
-    let ys = c.move-out.new.s in
+    let ys = c.move_out.new.s in
     let e = c.len-n.ensures in
-    let out = c.move-out.ensures in
+    let out = c.move_out.ensures in
     record {
       removed = record {
         which = held_at xs hs n _ i _ e.first e.count (omega arith) (omega arith);
