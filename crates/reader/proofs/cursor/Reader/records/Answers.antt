@@ -6,19 +6,19 @@ use Rattle.reader.specs.Views.{rest}
 use Rattle.reader.proofs.Turns.{turn, turn_refused, bytes_left, none_left}
 use Rattle.reader.proofs.cursor.Reader.records.Goals as goal
 
-pub returns-in-err-records : goal.returns-in-err-records
-returns-in-err-records c =
+pub returns-in_err-records : goal.returns-in_err-records
+returns-in_err-records c =
     let s = c.loop-i.self in
-    let p = err_from_is_err_and c.from-residual.result c.from-residual.ensures.1 in
+    let p = err_from_is_err_and c.from_residual.result c.from_residual.ensures.1 in
     ap (λ r. answered r c.loop-i.records) (p.1 ∙ ap Err p.2)
-    ∙ sym (turn_refused c.args.form c.args.cycle (length c.args.records.now) c.loop-i.i s.pos s.line (rest s) c.loop-i.records _ c.loop-i-test.true c.in-err-records.ensures.answer)
+    ∙ sym (turn_refused c.args.form c.args.cycle (length c.args.records.now) c.loop-i.i s.pos s.line (rest s) c.loop-i.records _ c.loop-i-test.true c.in_err-records.ensures.answer)
     ∙ c.loop-i.invariant
 
 pub loop-i-preserved : goal.loop-i-preserved
 loop-i-preserved c =
     let s = c.loop-i.self in
     let t = c.duty_record.new.self in
-    let told = c.in-ok-records.ensures in
+    let told = c.in_ok-records.ensures in
     turn c.args.form c.args.cycle (length c.args.records.now) c.loop-i.i s.pos s.line t.pos t.line s.text.now t.text.now c.loop-i.records _ c.loop-i-test.true (omega arith) told.answer told.moves.text told.moves.pos told.moves.line
     ∙ c.loop-i.invariant
 
