@@ -16,9 +16,9 @@ pub fill-requires : goal.fill-requires
 fill-requires c =
     let h = head c.args.header.now in
     let rs = c.args.records.now in
-    let ok : records_fault h rs ≡ Ok tt = sym c.check-records.ensures ∙ c.in-ok-check-records.was in
+    let ok : records_fault h rs ≡ Ok tt = sym c.check_records.ensures ∙ c.in_ok-check_records.was in
     let counted : c.duties-duties.result - 0 ≡ h.duties = omega arith in
-    let due = c.text-length-length.ensures ∙ ap (text_length c.args.form) c.duties-duties.ensures in
+    let due = c.text_length-length.ensures ∙ ap (text_length c.args.form) c.duties-duties.ensures in
     let long = ap (text_length c.args.form) (length_rows h rs ok) in
     rw counted (record { fits = all_fitting h rs ok; room = omega arith })
 
@@ -28,14 +28,14 @@ returns c =
     let h = head c.args.header.now in
     let rs = c.args.records.now in
     let out = c.args.out.now in
-    let n = c.text-length-length.result in
+    let n = c.text_length-length.result in
     let whole_text = text form (sheet h rs) in
-    let ok : records_fault h rs ≡ Ok tt = sym c.check-records.ensures ∙ c.in-ok-check-records.was in
+    let ok : records_fault h rs ≡ Ok tt = sym c.check_records.ensures ∙ c.in_ok-check_records.was in
     let limits = limits_kept h (omega arith) (omega arith) (omega arith) (omega arith) (omega arith) in
     let counted : c.duties-duties.result - 0 ≡ h.duties = omega arith in
     let rows : take (c.duties-duties.result - 0) rs ≡ take h.duties rs = ap (λ (k : ℕ). take k rs) counted in
     let value = c.fill.ensures.value ∙ ap (λ (l : List Record). put 0 (text form (whole h l)) out) rows ∙ put_first whole_text out in
-    let due = c.text-length-length.ensures ∙ ap (text_length form) c.duties-duties.ensures in
+    let due = c.text_length-length.ensures ∙ ap (text_length form) c.duties-duties.ensures in
     let full =
     ap (λ (l : List Record). length (text form (whole h l))) (sym rows)
     ∙ c.fill.ensures.full

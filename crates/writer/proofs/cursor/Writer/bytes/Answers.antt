@@ -5,10 +5,10 @@ use Rattle.writer.proofs.cursor.Writer.bytes.Goals as goal
 pub returns : goal.returns
 returns c =
     let self = c.args.self.now in
-    let given = c.copy-from-slice.ensures.after in
+    let given = c.copy_from_slice.ensures.after in
     record {
-      value = part_is _ self.pos c.args.first c.args.bytes.now self.out.now c.copy-from-slice.new.self (omega arith) given;
-      long = part_long _ self.pos c.args.first c.args.bytes.now self.out.now c.copy-from-slice.new.self (omega arith) given (omega arith);
+      value = part_is _ self.pos c.args.first c.args.bytes.now self.out.now c.copy_from_slice.new.self (omega arith) given;
+      long = part_long _ self.pos c.args.first c.args.bytes.now self.out.now c.copy_from_slice.new.self (omega arith) given (omega arith);
       stays = refl;
       same = refl;
     }

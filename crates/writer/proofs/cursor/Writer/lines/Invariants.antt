@@ -12,5 +12,5 @@ invariant-loop-row l =
     × (length (flat_map (line_text l.form) (take l.row-index l.records)) ≡ (line_width l.form + 1) * l.row-index)
     × (length l.self.out.now ≡ length l.initial.self.out.now)
     × (l.self.pos ≡ l.initial.self.pos + (line_width l.form + 1) * l.row-index)
-    × (l.self.out.name ≡ l.initial.self.out.name)
+    × (l.self.out.ghost_name ≡ l.initial.self.out.ghost_name)
     × All Sized (take l.row-index l.records)
