@@ -3,8 +3,8 @@ use Rattle.std.proofs.lemmas.Fmt.{length-decimal-le}
 use Rattle.columns.proofs.Writing.{one_digit, digits_step}
 use Rattle.columns.proofs.numbers.digit_count.Goals as goal
 
-pub overflow-add-count : goal.overflow-add-count
-overflow-add-count c =
+pub overflow_add-count : goal.overflow_add-count
+overflow_add-count c =
     let few = length-decimal-le 10 c.args.n (omega arith) (omega arith) (omega arith) in omega (arith, few)
 
 pub loop-left-preserved : goal.loop-left-preserved

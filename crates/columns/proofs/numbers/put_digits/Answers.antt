@@ -3,8 +3,8 @@ use Rattle.std.proofs.lemmas.Fmt.{decimal_nonempty}
 use Rattle.columns.proofs.Writing.{digits_step, write_digit, write_last, write_blank}
 use Rattle.columns.proofs.numbers.put_digits.Goals as goal
 
-pub overflow-sub-i-in-loop-left : goal.overflow-sub-i-in-loop-left
-overflow-sub-i-in-loop-left c =
+pub overflow_sub-i-in-loop-left : goal.overflow_sub-i-in-loop-left
+overflow_sub-i-in-loop-left c =
     let s = digits_step c.loop-left.left c.loop-left-test.true (omega arith) in
     let some = decimal_nonempty (c.loop-left.left / 10) (omega arith) in
     omega (arith, s, some)

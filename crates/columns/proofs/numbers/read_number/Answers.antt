@@ -23,6 +23,6 @@ returns c =
       | else-loop-i-test w ↦ numeral_end bs c.loop-i.i w.loop-i-test.false ∙ c.loop-i.invariant.1
     ] in
     record {
-      answer = c.plain-value.ensures ∙ ap plain (take_rest bs c.loop-i.i) ∙ read ∙ sym (cond-true _ _ _ (le-leb (length bs) 9 c.if-columns-gt-WIDEST.false));
+      answer = c.plain_value.ensures ∙ ap plain (take_rest bs c.loop-i.i) ∙ read ∙ sym (cond-true _ _ _ (le-leb (length bs) 9 c.if-columns-gt-WIDEST.false));
       law = both_ways;
     }

@@ -12,11 +12,11 @@ returns-then-d-lt48 c =
       | then-d-lt48-via-else-d-lt48+then-d-gt57 w ↦ sym (further_above _ _ c.loop-d-test.true _ w.if-d-gt57.true) ∙ c.loop-d.invariant.0
     ]
 
-pub overflow-mul-n : goal.overflow-mul-n
-overflow-mul-n c = let s = nine_digits _ _ c.loop-d.invariant.1 (omega arith) in omega arith
+pub overflow_mul-n : goal.overflow_mul-n
+overflow_mul-n c = let s = nine_digits _ _ c.loop-d.invariant.1 (omega arith) in omega arith
 
-pub overflow-add-n : goal.overflow-add-n
-overflow-add-n c = let s = nine_digits _ _ c.loop-d.invariant.1 (omega arith) in omega arith
+pub overflow_add-n : goal.overflow_add-n
+overflow_add-n c = let s = nine_digits _ _ c.loop-d.invariant.1 (omega arith) in omega arith
 
 pub loop-d-preserved : goal.loop-d-preserved
 loop-d-preserved c = (

@@ -4,8 +4,8 @@ use Rattle.gauge.specs.Demands.{demands_fit}
 use Rattle.gauge.specs.Cycles.{scan_fails, scan_more, scan_passes}
 use Rattle.gauge.proofs.exact.scan.Goals as goal
 
-pub demand-upto-h-requires : goal.demand-upto-h-requires
-demand-upto-h-requires c =
+pub demand_upto-h-requires : goal.demand_upto-h-requires
+demand_upto-h-requires c =
     let w = fair_list c.args.duties.now c.args.cycle c.requires in
     record {
       timed = w.each_timely;
@@ -15,13 +15,13 @@ demand-upto-h-requires c =
 pub returns-then-h-t : goal.returns-then-h-t
 returns-then-h-t c =
     let w = fair_list c.args.duties.now c.args.cycle c.requires in
-    sym (scan_fails c.args.duties.now c.args.cycle c.loop-t.t c.demand-upto-h.result c.demand-upto-h.ensures w c.loop-t.invariant.0 (omega arith))
+    sym (scan_fails c.args.duties.now c.args.cycle c.loop-t.t c.demand_upto-h.result c.demand_upto-h.ensures w c.loop-t.invariant.0 (omega arith))
 
 pub returns-then-h-eq0 : goal.returns-then-h-eq0
 returns-then-h-eq0 c =
-    sym (scan_passes c.args.duties.now c.args.cycle c.loop-t.t c.demand-upto-h.result c.demand-upto-h.ensures (omega arith) c.loop-t.invariant.1)
+    sym (scan_passes c.args.duties.now c.args.cycle c.loop-t.t c.demand_upto-h.result c.demand_upto-h.ensures (omega arith) c.loop-t.invariant.1)
 
 pub loop-t-preserved : goal.loop-t-preserved
 loop-t-preserved c =
-    let more = scan_more c.args.duties.now c.args.cycle c.loop-t.t c.demand-upto-h.result c.demand-upto-h.ensures (omega arith) c.loop-t.invariant.1 in
+    let more = scan_more c.args.duties.now c.args.cycle c.loop-t.t c.demand_upto-h.result c.demand_upto-h.ensures (omega arith) c.loop-t.invariant.1 in
     (omega (arith, c.loop-t.invariant.0), λ s past to. more s (omega arith) to)

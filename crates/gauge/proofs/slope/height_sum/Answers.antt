@@ -15,7 +15,7 @@ pub returns : goal.returns
 returns c =
     sum_all (height_at c.args.t) c.args.lines.now c.loop-above.above-index c.loop-above.sum c.loop-above.invariant c.loop-above-test.false
 
-pub overflow-add-sum : goal.overflow-add-sum
-overflow-add-sum c =
+pub overflow_add-sum : goal.overflow_add-sum
+overflow_add-sum c =
     let more = sum_more (height_at c.args.t) c.args.lines.now c.loop-above.above-index c.loop-above.sum c.loop-above.invariant _ c.height-sum.result c.loop-above-test.true c.height-sum.ensures in
     omega (arith, more, c.requires)

@@ -9,8 +9,8 @@ draw-requires c =
     let w = fair_list c.args.duties.now c.args.cycle c.requires.judged in
     record { timed = w.each_timely; room = w.few }
 
-pub height-sum-requires : goal.height-sum-requires
-height-sum-requires c =
+pub height_sum-requires : goal.height_sum-requires
+height_sum-requires c =
     let ds = c.args.duties.now in
     let drawn : take (length ds - 0) c.draw.new.lines ≡ map (line c.args.cycle) ds = search rules in
     heights_fit ds _ c.args.cycle drawn c.requires.judged c.args.t c.requires.near
@@ -19,4 +19,4 @@ pub returns : goal.returns
 returns c =
     let ds = c.args.duties.now in
     let drawn : take (length ds - 0) c.draw.new.lines ≡ map (line c.args.cycle) ds = search rules in
-    c.height-sum.ensures ∙ heights ds _ c.args.cycle drawn c.args.t
+    c.height_sum.ensures ∙ heights ds _ c.args.cycle drawn c.args.t

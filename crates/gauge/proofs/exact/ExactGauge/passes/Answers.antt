@@ -3,8 +3,8 @@ use Rattle.gauge.specs.Cycles.{cycle_decides, exact_decides}
 use Rattle.gauge.proofs.Shortage.{refused_lists_leave_a_job_short}
 use Rattle.gauge.proofs.exact.ExactGauge.passes.Goals as goal
 
-pub returns-then-is-fair : goal.returns-then-is-fair
-returns-then-is-fair c = record { answer = search rules; cycles = cycle_decides; decides = exact_decides; shortage = refused_lists_leave_a_job_short }
+pub returns-then-is_fair : goal.returns-then-is_fair
+returns-then-is_fair c = record { answer = search rules; cycles = cycle_decides; decides = exact_decides; shortage = refused_lists_leave_a_job_short }
 
-pub returns-else-is-fair : goal.returns-else-is-fair
-returns-else-is-fair c = record { answer = search rules; cycles = cycle_decides; decides = exact_decides; shortage = refused_lists_leave_a_job_short }
+pub returns-else-is_fair : goal.returns-else-is_fair
+returns-else-is_fair c = record { answer = search rules; cycles = cycle_decides; decides = exact_decides; shortage = refused_lists_leave_a_job_short }
