@@ -6,8 +6,8 @@ use Rattle.heap_queue.proofs.slots.empty_place.Goals as goal
 
 pub returns : goal.returns
 returns c =
-    let h = c.take-out.new.heap in
-    let left = c.take-out.ensures.without in
+    let h = c.take_out.new.heap in
+    let left = c.take_out.ensures.without in
     let n = c.len.ensures in
     let was = set (row (take c.args.n c.args.slots.now)) c.args.place None in
     record {

@@ -11,11 +11,11 @@ pub returns : goal.returns
 returns c =
     let e = c.args.entry in
     let h = c.push.new.self in
-    let es = held c.take-out.new.heap in
-    let left = c.take-out.ensures.without in
+    let es = held c.take_out.new.heap in
+    let left = c.take_out.ensures.without in
     let put = c.push.ensures.pushed in
     let start = row (take c.args.n c.args.slots.now) in
-    let fewer : length es < room c.take-out.new.heap = omega (arith, room_for e.place es left.sound c.requires.low left.gone, c.take-out.ensures.same_room, ap length c.resume-heap.ensures.memory, c.requires.room) in
+    let fewer : length es < room c.take_out.new.heap = omega (arith, room_for e.place es left.sound c.requires.low left.gone, c.take_out.ensures.same_room, ap length c.resume-heap.ensures.memory, c.requires.room) in
     let taken = put.taken (put.fits ∙ lt-ltb _ _ fewer) in
     let now_row : row (held h) ≡ set start e.place (Some e.deadline) =
     in_row es (held h) e taken left.gone left.sound
