@@ -50,7 +50,7 @@ fn collect(records: &[Record], board: u8, list: &mut [Timing]) -> Option<usize>
 
 // Whether the board has at most 64 duties and its list passes the gauge.
 pub fn board_passes<G: Gauge>(gauge: &G, records: &[Record], board: u8, cycle: u32) -> bool
-    ensures { result ≡ board_passed (passed gauge.now) records.now board cycle }
+    ensures { result ≡ board_passed (G.passed gauge.now) records.now board cycle }
 {
     let mut list = [Timing::NONE; MOST];
     match collect(records, board, &mut list) {
