@@ -30,8 +30,8 @@ fn clear_boards(records: &mut [Record])
 fn place_one<G: Gauge>(gauge: &G, records: &mut [Record], i: usize, boards: u8, cycle: u32) -> bool
     requires few { (length records.old ≤ most_duties) × (boards ≤ most_boards) }
     requires within { i < length records.old }
-    ensures records { records.new ≡ seat records.old i (fit (passed gauge.now) boards cycle records.old i) }
-    ensures answer { result ≡ not (fit (passed gauge.now) boards cycle records.old i == 0) }
+    ensures records { records.new ≡ seat records.old i (fit (G.passed gauge.now) boards cycle records.old i) }
+    ensures answer { result ≡ not (fit (G.passed gauge.now) boards cycle records.old i == 0) }
 {
     let mut b = 1;
     while b <= boards {
@@ -73,8 +73,8 @@ fn take_all<G: Gauge>(
     requires few { (length records.old ≤ most_duties) × (boards ≤ most_boards) }
     requires heaped { Heaped sooner (held heap.old) }
     requires within { All (λ e. e.index < length records.old) (held heap.old) }
-    ensures records { records.new ≡ (placed (passed gauge.now) boards cycle records.old (taken (held heap.old))).0 }
-    ensures answer { result ≡ placed_answer (placed (passed gauge.now) boards cycle records.old (taken (held heap.old))).1 }
+    ensures records { records.new ≡ (placed (G.passed gauge.now) boards cycle records.old (taken (held heap.old))).0 }
+    ensures answer { result ≡ placed_answer (placed (G.passed gauge.now) boards cycle records.old (taken (held heap.old))).1 }
     ensures memory { Past (length (held heap.old)) (memory heap.old) (memory heap.new) }
     ensures named { heap.new.slots.ghost_name ≡ heap.old.slots.ghost_name }
 {
@@ -101,8 +101,8 @@ pub(crate) fn first_fit<G: Gauge>(
 ) -> Result<(), Fault>
     requires few { (length records.old ≤ most_duties) × (boards ≤ most_boards) }
     requires fits { length records.old ≤ length scratch.old }
-    ensures records { records.new ≡ (first_fit (passed gauge.now) boards cycle records.old).0 }
-    ensures answer { result ≡ placed_answer (first_fit (passed gauge.now) boards cycle records.old).1 }
+    ensures records { records.new ≡ (first_fit (G.passed gauge.now) boards cycle records.old).0 }
+    ensures answer { result ≡ placed_answer (first_fit (G.passed gauge.now) boards cycle records.old).1 }
     ensures scratch { Past (length records.old) scratch.old scratch.new }
 {
     clear_boards(records);

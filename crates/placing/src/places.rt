@@ -21,9 +21,9 @@ pub fn place<G: Gauge>(
     records: &mut [Record],
     scratch: &mut [Lined],
 ) -> Result<(), Fault>
-    ensures answer { result ≡ place_answer (passed gauge.now) (head header.now) records.old (length scratch.old) }
-    ensures after { records.new ≡ place_after (passed gauge.now) (head header.now) records.old (length scratch.old) }
-    ensures law { place_fault (head header.now) records.old (length scratch.old) ≡ Ok tt → PlacedLaw (passed gauge.now) header.now.boards header.now.cycle header.now.duties records.old records.new result }
+    ensures answer { result ≡ place_answer (G.passed gauge.now) (head header.now) records.old (length scratch.old) }
+    ensures after { records.new ≡ place_after (G.passed gauge.now) (head header.now) records.old (length scratch.old) }
+    ensures law { place_fault (head header.now) records.old (length scratch.old) ≡ Ok tt → PlacedLaw (G.passed gauge.now) header.now.boards header.now.cycle header.now.duties records.old records.new result }
     ensures bounded { place_fault (head header.now) records.old (length scratch.old) ≡ Ok tt → WithinTime header.now.boards (take header.now.duties records.new) }
     ensures scratch { Past header.now.duties scratch.old scratch.new }
     ensures untouched { (f : Refusal) → place_fault (head header.now) records.old (length scratch.old) ≡ Err f → scratch.new ≡ scratch.old }

@@ -11,4 +11,4 @@ invariant-loop-i l =
     IsPermutation (lined 0 (take l.i l.records)) (held l.heap)
     × Heaped sooner (held l.heap)
     × Past (length l.records) (memory l.initial.heap) (memory l.heap)
-    × (l.heap.slots.name ≡ l.initial.heap.slots.name)
+    × (l.heap.slots.ghost_name ≡ l.initial.heap.slots.ghost_name)

@@ -11,14 +11,14 @@ use Rattle.placing.specs.Outcome.{placed_answer}
 use Rattle.placing.proofs.Taking.{goes_on, stops, past_on}
 use Rattle.placing.proofs.first_fit.take_all.Goals as goal
 
-pub place-one-requires : goal.place-one-requires
-place-one-requires g c =
+pub place_one-requires : goal.place_one-requires
+place_one-requires g c =
     let n = length c.args.records.now in
     let in' = (all_shuffled (λ e. e.index < n) _ _ c.in-Some.ensures.removed.others c.loop-next.invariant.1).0 in
     record { few = omega arith; within = omega (arith, in') }
 
-pub overflow-add-result : goal.overflow-add-result
-overflow-add-result g c =
+pub overflow_add-result : goal.overflow_add-result
+overflow_add-result g c =
     let n = length c.args.records.now in
     let in' = (all_shuffled (λ e. e.index < n) _ _ c.in-Some.ensures.removed.others c.loop-next.invariant.1).0 in
     omega (arith, in', c.requires.few.0)
@@ -34,23 +34,23 @@ loop-next-preserved g c =
     let removed = told.removed in
     let leaves = told.leaves l.invariant.0 in
     let fewer = length_permutation _ _ removed.others in
-    let ok : true ≡ _ = sym c.if-not-place-one.false ∙ c.place-one.ensures.answer in (
+    let ok : true ≡ _ = sym c.if-not-place_one.false ∙ c.place_one.ensures.answer in (
       leaves.heaped,
       (all_shuffled (λ e. e.index < length c.args.records.now) _ _ removed.others l.invariant.1).1,
-      goes_on (g.G.Gauge.passed c.args.gauge.now) c.args.boards c.args.cycle l.records (held l.heap) (held c.pop.new.self) c.in-Some.next _ leaves.in_turn l.invariant.2 c.place-one.new.records ok c.place-one.ensures.records,
+      goes_on (g.G.Gauge.passed c.args.gauge.now) c.args.boards c.args.cycle l.records (held l.heap) (held c.pop.new.self) c.in-Some.next _ leaves.in_turn l.invariant.2 c.place_one.new.records ok c.place_one.ensures.records,
       past_on _ (length (held l.heap)) _ (memory l.heap) (memory c.pop.new.self) l.invariant.5 l.invariant.3 removed.same_room removed.beyond,
       told.named ∙ l.invariant.4,
       omega (arith, fewer, l.invariant.5),
     )
 
-pub returns-then-not-place-one : goal.returns-then-not-place-one
-returns-then-not-place-one g c =
+pub returns-then-not-place_one : goal.returns-then-not-place_one
+returns-then-not-place_one g c =
     let l = c.loop-next in
     let told = c.in-Some.ensures in
     let removed = told.removed in
     let leaves = told.leaves l.invariant.0 in
-    let ok : false ≡ _ = sym c.if-not-place-one.true ∙ c.place-one.ensures.answer in
-    let whole = stops (g.G.Gauge.passed c.args.gauge.now) c.args.boards c.args.cycle l.records (held l.heap) (held c.pop.new.self) c.in-Some.next _ leaves.in_turn l.invariant.2 c.place-one.new.records ok c.place-one.ensures.records in
+    let ok : false ≡ _ = sym c.if-not-place_one.true ∙ c.place_one.ensures.answer in
+    let whole = stops (g.G.Gauge.passed c.args.gauge.now) c.args.boards c.args.cycle l.records (held l.heap) (held c.pop.new.self) c.in-Some.next _ leaves.in_turn l.invariant.2 c.place_one.new.records ok c.place_one.ensures.records in
     record {
       records = ap (λ r. r.0) whole;
       answer = ap (λ r. placed_answer r.1) whole;
@@ -61,7 +61,7 @@ returns-then-not-place-one g c =
 pub returns : goal.returns
 returns g c =
     let l = c.loop-next in
-    let told = c.in-default.ensures in
+    let told = c.in_default.ensures in
     let removed = told.removed in
     let passes = g.G.Gauge.passed c.args.gauge.now in
     let empty : held l.heap ≡ [] = nil_from_length (held l.heap) (none_left (held l.heap) removed.which) in

@@ -14,7 +14,7 @@ invariant-loop-next g l =
     × All (λ e. e.index < length l.initial.records) (held l.heap)
     × (placed (g.G.Gauge.passed l.gauge) l.boards l.cycle l.records (taken (held l.heap)) ≡ placed (g.G.Gauge.passed l.gauge) l.boards l.cycle l.initial.records (taken (held l.initial.heap)))
     × Past (length (held l.initial.heap)) (memory l.initial.heap) (memory l.heap)
-    × (l.heap.slots.name ≡ l.initial.heap.slots.name)
+    × (l.heap.slots.ghost_name ≡ l.initial.heap.slots.ghost_name)
     × (length (held l.heap) ≤ length (held l.initial.heap))
 
 abbrev pub decreases-loop-next : goal.decreases-loop-next

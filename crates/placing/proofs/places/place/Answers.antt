@@ -3,8 +3,8 @@ use Rattle.duty.specs.Heads.{head}
 use Rattle.placing.proofs.Whole.{placed_law, within_time, no_fault, past_part, answer_is, after_is}
 use Rattle.placing.proofs.places.place.Goals as goal
 
-pub first-fit-requires : goal.first-fit-requires
-first-fit-requires g c =
+pub first_fit-requires : goal.first_fit-requires
+first_fit-requires g c =
     let h = c.args.header.now in
     let n = c.duties-duties.ensures in
     let rs = c.args.records.now in
@@ -20,7 +20,7 @@ returns g c =
     let rs = c.args.records.now in
     let room = length c.args.scratch.now in
     let d = c.duties-duties.result in
-    let good = c.in-ok-check-records.ensures in
+    let good = c.in_ok-check_records.ensures in
     let is = c.duties-duties.ensures in
     let fits = c.if-scratch-duties.false in
     let passes = g.G.Gauge.passed c.args.gauge.now in
