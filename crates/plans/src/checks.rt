@@ -37,7 +37,7 @@ fn check_boards<G: Gauge>(
     cycle: u32,
 ) -> Result<(), Fault>
     requires { boards ≤ most_boards }
-    ensures { result ≡ overfull_fault (passed gauge.now) records.now cycle 1 boards }
+    ensures { result ≡ overfull_fault (G.passed gauge.now) records.now cycle 1 boards }
 {
     let mut b = 1;
     while b <= boards {
@@ -60,7 +60,7 @@ pub(crate) fn check_plan<G: Gauge>(
     header: &Header,
     records: &[Record],
 ) -> Result<(), Fault>
-    ensures { result ≡ close_fault (passed gauge.now) (head header.now) records.now }
+    ensures { result ≡ close_fault (G.passed gauge.now) (head header.now) records.now }
 {
     check_records(header, records)?;
     let rows = &records[0..header.duties() as usize];

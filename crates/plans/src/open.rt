@@ -28,8 +28,8 @@ impl<'a> OpenPlan<'a> {
     // Why the plan cannot be closed under the gauge, if so: too few records, a record that is no duty of the
     // cycle, a duty on no board of the header, a board whose list does not pass. The plan stays open.
     pub fn check<G: Gauge>(&self, gauge: &G) -> Result<(), Fault>
-        ensures answer { result ≡ close_fault (passed gauge.now) (head self.now.header) self.now.records.now }
-        ensures law { Decides (passed gauge.now) (head self.now.header) self.now.records.now result }
+        ensures answer { result ≡ close_fault (G.passed gauge.now) (head self.now.header) self.now.records.now }
+        ensures law { Decides (G.passed gauge.now) (head self.now.header) self.now.records.now result }
     {
         check_plan(gauge, &self.header, self.records)
     }

@@ -12,12 +12,12 @@ use gauge::Gauge;
 impl<'a> OpenPlan<'a> {
     // Closes a plan that its check passed. The move cannot refuse, so what the check's good answer says is asked.
     pub fn close<G: Gauge>(self, gauge: G) -> ClosedPlan<'a, G>
-        requires { close_fault (passed gauge) (head self.header) self.records.now ≡ Ok tt }
+        requires { close_fault (G.passed gauge) (head self.header) self.records.now ≡ Ok tt }
         ensures header { head result.header ≡ head self.entry.header }
         ensures records { result.records.now ≡ self.entry.records.now }
         ensures named { result.records.ghost_name ≡ self.entry.records.ghost_name }
         ensures gauge { result.gauge ≡ gauge }
-        ensures closable { Closable (passed gauge) (head result.header) result.records.now }
+        ensures closable { Closable (G.passed gauge) (head result.header) result.records.now }
     {
         let OpenPlan { header, records } = self;
         ClosedPlan {

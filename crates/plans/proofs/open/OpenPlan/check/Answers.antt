@@ -7,6 +7,6 @@ pub returns : goal.returns
 returns g c =
     let plan = c.args.self.now in
     record {
-      answer = c.check-plan.ensures;
-      law = decides _ _ _ plan.header.few_duties c.check-plan.result c.check-plan.ensures;
+      answer = c.check_plan.ensures;
+      law = decides _ _ _ plan.header.few_duties c.check_plan.result c.check_plan.ensures;
     }
