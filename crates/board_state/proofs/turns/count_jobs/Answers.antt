@@ -11,7 +11,7 @@ loop-place-preserved c =
     let i = c.loop-place.place-index in
     let step : jobs_of (drop i xs) ≡ one_if_waiting (get_or xs i c.place-item.result).job + jobs_of (drop (i + 1) xs) = at_drop_more jobs_of xs i c.place-item.result (omega arith) in
     let item = ap (λ (x : Place). one_if_waiting x.job) c.place-item.is in
-    (omega (arith, step, item, c.one-if-waiting-n.ensures.value, c.loop-place.invariant.0), omega (arith, c.loop-place.invariant.1, c.one-if-waiting-n.ensures.small))
+    (omega (arith, step, item, c.one_if_waiting-n.ensures.value, c.loop-place.invariant.0), omega (arith, c.loop-place.invariant.1, c.one_if_waiting-n.ensures.small))
 
 pub returns : goal.returns
 returns c =

@@ -16,22 +16,22 @@ first_turned : (f : Seen → Seen) (n : ℕ) (xs ys : List Place) → map seen y
 first_turned f n xs ys e =
     sym (take-map seen n ys) ∙ ap (take n) e ∙ take-map f n (map seen xs) ∙ ap (map f) (take-map seen n xs)
 
-pub invariant-of-self : goal.invariant-of-self
-invariant-of-self c =
+pub invariant_of-self : goal.invariant_of-self
+invariant_of-self c =
     let s = c.args.self.now in
-    let ys = c.cancel-all.new.places in
-    let e = first_turned (after s.clock GeneralCancel) s.count s.places ys c.cancel-all.ensures in
-    let long : length (map seen ys) ≡ length (map (after s.clock GeneralCancel) (map seen s.places)) = ap length c.cancel-all.ensures in
+    let ys = c.cancel_all.new.places in
+    let e = first_turned (after s.clock GeneralCancel) s.count s.places ys c.cancel_all.ensures in
+    let long : length (map seen ys) ≡ length (map (after s.clock GeneralCancel) (map seen s.places)) = ap length c.cancel_all.ensures in
     let wide : length ys ≡ length s.places = sym (length-map ys seen) ∙ long ∙ length-map (map seen s.places) (after s.clock GeneralCancel) ∙ length-map s.places seen in
-    (wide ∙ s.wide, (s.few, (s.limit, (none_past s.clock (take s.count s.places) (take s.count ys) e, tt))))
+    record { wide = wide ∙ s.wide; few = s.few; limit = s.limit; arrived = none_past s.clock (take s.count s.places) (take s.count ys) e }
 
 pub returns : goal.returns
 returns c =
     let s = c.args.self.now in
-    let ys = c.cancel-all.new.places in
-    let e = first_turned (after s.clock GeneralCancel) s.count s.places ys c.cancel-all.ensures in
+    let ys = c.cancel_all.new.places in
+    let e = first_turned (after s.clock GeneralCancel) s.count s.places ys c.cancel_all.ensures in
     let z : s.count - 0 ≡ s.count = omega arith in
     record {
-      answer = ap Cancelled (c.count-jobs-ended.ensures ∙ ap (λ (n : ℕ). jobs_of (take n s.places)) z ∙ sym (total_map (λ (x : Seen). one_if_waiting x.job) seen (take s.count s.places)));
+      answer = ap Cancelled (c.count_jobs-ended.ensures ∙ ap (λ (n : ℕ). jobs_of (take n s.places)) z ∙ sym (total_map (λ (x : Seen). one_if_waiting x.job) seen (take s.count s.places)));
       board = ap (λ (l : List Seen). record { clock = s.clock; places = l }) e;
     }

@@ -10,13 +10,13 @@ use Rattle.board_state.proofs.Seeing.{each_set, take_set_in}
 use Rattle.board_state.proofs.Lasting.{stays_past}
 use Rattle.board_state.proofs.states.State.turn.Goals as goal
 
-pub invariant-of-self : goal.invariant-of-self
-invariant-of-self c =
+pub invariant_of-self : goal.invariant_of-self
+invariant_of-self c =
     let s = c.args.self.now in
     let y = c.turned-next.result in
     let fresh = stays_past s.clock c.args.call c.args.place.now y c.turned-next.ensures c.requires in
     let arrived = ap (each (past s.clock)) (take_set_in s.count s.places c.args.p y) ∙ each_set (past s.clock) (take s.count s.places) c.args.p y fresh s.arrived in
-    (length-set s.places c.args.p y ∙ s.wide, (s.few, (s.limit, (arrived, tt))))
+    record { wide = length-set s.places c.args.p y ∙ s.wide; few = s.few; limit = s.limit; arrived = arrived }
 
 pub returns-then-p-lt-PLACES : goal.returns-then-p-lt-PLACES
 returns-then-p-lt-PLACES c =

@@ -8,11 +8,11 @@ use Rattle.board_state.proofs.Lasting.{idle_past}
 use Rattle.board_state.proofs.Seeing.{seen_idle}
 use Rattle.board_state.proofs.states.starts.start.Goals as goal
 
-pub invariant-of-result : goal.invariant-of-result
-invariant-of-result c =
+pub invariant_of-result : goal.invariant_of-result
+invariant_of-result c =
     let wide : length c.fill.new.places ≡ 64 = omega (arith, c.fill.auto.places) in
     let unpassed : 0 ≤ clock_limit = omega arith in
-    (wide, (c.requires, (unpassed, (ap (each (past 0)) c.fill.ensures ∙ idle_past 0 c.args.duties.now, tt))))
+    record { wide = wide; few = c.requires; limit = unpassed; arrived = ap (each (past 0)) c.fill.ensures ∙ idle_past 0 c.args.duties.now }
 
 pub returns : goal.returns
 returns c =
