@@ -9,7 +9,7 @@ returns-then-digits-eq32 c = λ n s e.
     omega (arith, first_digit n s, first, c.if-digits-eq32.true)
 
 pub returns : goal.returns
-returns c = bare_number c.args.digits.now c.read-number.result c.read-number.ensures.answer (
+returns c = bare_number c.args.digits.now c.read_number.result c.read_number.ensures.answer (
     elim c.else-digits-gt0.branch [
       | else-digits-gt0-via-then-digits-gt0+else-digits-eq32 w ↦ w.if-digits-eq32.false
       | else-digits-gt0-via-else-digits-gt0 w ↦ nothing_first c.args.digits.now w.if-digits-gt0.false

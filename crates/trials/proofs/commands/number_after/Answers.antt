@@ -12,4 +12,4 @@ returns-in-Some c =
 
 pub returns-in-None : goal.returns-in-None
 returns-in-None c = λ n s e.
-    strip_prefix_is c.args.line.now c.args.word.now None c.in-None.ensures.cases (decimal n) (sym e)
+    strip_prefix_is Decides-eqb c.args.line.now c.args.word.now None c.in-None.ensures.cases (decimal n) (sym e)
