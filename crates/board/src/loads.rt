@@ -69,7 +69,7 @@ impl<Q: ReadyQueue> BareBoard<Q> {
     // duties. Every list of calls keeps the promises.
     pub fn load<G: Gauge>(self, plan: &ClosedPlan<G>, number: u8) -> RunningBoard<Q>
         ensures start { board_of result.state ≡ loaded (list_of plan.now number) }
-        ensures in_step { InStep (held result.queue) (board_of result.state) }
+        ensures in_step { InStep (Q.held result.queue) (board_of result.state) }
         ensures unknown { (f : Fault) → load_fault number plan.now.header.boards ≡ Err f → list_of plan.now number ≡ [] }
         ensures promises { (calls : List Call) → Promises (list_of plan.now number) (run_of (board_of result.state) calls) }
     {

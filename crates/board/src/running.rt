@@ -26,7 +26,7 @@ pub struct RunningBoard<Q: ReadyQueue> {
 
 // Has the queue hold what waits at a place.
 fn settle<Q: ReadyQueue>(queue: &mut Q, place: usize, due: Option<u64>)
-    ensures { held queue.new ≡ slice_set (held queue.old) place due }
+    ensures { Q.held queue.new ≡ slice_set (Q.held queue.old) place due }
 {
     let _ = match due {
         Some(deadline) => queue.put(place, deadline),
@@ -37,7 +37,7 @@ fn settle<Q: ReadyQueue>(queue: &mut Q, place: usize, due: Option<u64>)
 impl<Q: ReadyQueue> RunningBoard<Q> {
     // A job of the place arrives: answers the clock reading by which it is due, and the ticks that it will get.
     pub fn arrive(&mut self, place: usize) -> Result<(u64, u32), Fault>
-        ensures { CalledAt held (Arrive place) place self.old (arrival_answer result) self.new }
+        ensures { CalledAt Q.held (Arrive place) place self.old (arrival_answer result) self.new }
     {
         let granted = self.state.arrive(place)?;
         settle(&mut self.queue, place, self.state.due(place));
@@ -46,9 +46,9 @@ impl<Q: ReadyQueue> RunningBoard<Q> {
 
     // The clock goes on by one, and the first job gets one unit of work: answers its place, or none.
     pub fn tick(&mut self) -> Result<Option<usize>, Fault>
-        ensures told { Ticked held self.old (tick_answer result) self.new }
-        ensures first { InStep (held self.old.queue) (board_of self.old.state) → TickedFirst self.old (tick_answer result) self.new }
-        ensures relation { InStep (held self.old.queue) (board_of self.old.state) → IfOk result (λ place. Foremost (dues (board_of self.old.state).places) place) }
+        ensures told { Ticked Q.held self.old (tick_answer result) self.new }
+        ensures first { InStep (Q.held self.old.queue) (board_of self.old.state) → TickedFirst self.old (tick_answer result) self.new }
+        ensures relation { InStep (Q.held self.old.queue) (board_of self.old.state) → IfOk result (λ place. Foremost (dues (board_of self.old.state).places) place) }
     {
         let first = self.queue.first();
         let ran = self.state.tick(first)?;
@@ -60,7 +60,7 @@ impl<Q: ReadyQueue> RunningBoard<Q> {
 
     // The job of the place is done early: answers the units that it still had. Its last arrival remains.
     pub fn finish(&mut self, place: usize) -> Result<u32, Fault>
-        ensures { CalledAt held (Finish place) place self.old (finish_answer result) self.new }
+        ensures { CalledAt Q.held (Finish place) place self.old (finish_answer result) self.new }
     {
         let units = self.state.finish(place)?;
         settle(&mut self.queue, place, self.state.due(place));
@@ -69,7 +69,7 @@ impl<Q: ReadyQueue> RunningBoard<Q> {
 
     // Ends all jobs and forgets all last arrivals: answers how many jobs ended. The clock remains.
     pub fn general_cancel(&mut self) -> usize
-        ensures { Cancels held self.old (Cancelled result) self.new }
+        ensures { Cancels Q.held self.old (Cancelled result) self.new }
     {
         let ended = self.state.general_cancel();
         self.queue.clear();
@@ -78,7 +78,7 @@ impl<Q: ReadyQueue> RunningBoard<Q> {
 
     // Makes one call.
     pub(crate) fn call(&mut self, call: Call) -> Answer
-        ensures { InStep (held self.old.queue) (board_of self.old.state) → Stepped held call self.old result self.new }
+        ensures { InStep (Q.held self.old.queue) (board_of self.old.state) → Stepped Q.held call self.old result self.new }
     {
         match call {
             Call::Arrive(place) => match self.arrive(place) {
@@ -99,7 +99,7 @@ impl<Q: ReadyQueue> RunningBoard<Q> {
 
     // Makes the board bare again, and clears its queue.
     pub fn unload(self) -> BareBoard<Q>
-        ensures { held result.queue ≡ all_empty }
+        ensures { Q.held result.queue ≡ all_empty }
     {
         let RunningBoard {
             state: _,

@@ -24,7 +24,7 @@ const MOST: usize = Header::MOST_DUTIES as usize;
 impl<Q: ReadyQueue> RunningBoard<Q> {
     // Makes the calls in their order, and writes each answer beside its call.
     fn play(&mut self, events: &mut [Event])
-        ensures { InStep (held self.old.queue) (board_of self.old.state) → events.new ≡ run_of (board_of self.old.state) (calls events.old) }
+        ensures { InStep (Q.held self.old.queue) (board_of self.old.state) → events.new ≡ run_of (board_of self.old.state) (calls events.old) }
     {
         for event in events {
             event.answer = self.call(event.call);
@@ -41,7 +41,7 @@ pub fn run<G: Gauge, Q: ReadyQueue>(
     events: &mut [Event],
 ) -> (BareBoard<Q>, Result<(), Fault>)
     ensures answer { result.1 ≡ load_fault number plan.now.header.boards }
-    ensures ran { MatchResult result.1 (λ _. Run held (list_of plan.now number) events.old events.new result.0.queue) (λ _. NotRun board.queue events.old events.new result.0.queue) }
+    ensures ran { MatchResult result.1 (λ _. Run Q.held (list_of plan.now number) events.old events.new result.0.queue) (λ _. NotRun board.queue events.old events.new result.0.queue) }
     ensures refused_lists { RefusedListsLeaveAJobShort }
 {
     if let Err(fault) = check_load(plan, number) {
@@ -61,9 +61,9 @@ fn run_rows<G: Gauge + Drop, Q: ReadyQueue>(
     queue: Q,
     events: &mut [Event],
 ) -> (Q, Result<(), Fault>)
-    ensures answer { result.1 ≡ run_fault (passed gauge) (head header) rows.old number }
-    ensures ran { MatchResult result.1 (λ _. Run held (listed (head header) rows.old number) events.old events.new result.0) (λ _. NotRun queue events.old events.new result.0) }
-    ensures passing { OnOk result.1 (passed gauge (listed (head header) rows.old number) header.cycle ≡ true) }
+    ensures answer { result.1 ≡ run_fault (G.passed gauge) (head header) rows.old number }
+    ensures ran { MatchResult result.1 (λ _. Run Q.held (listed (head header) rows.old number) events.old events.new result.0) (λ _. NotRun queue events.old events.new result.0) }
+    ensures passing { OnOk result.1 (G.passed gauge (listed (head header) rows.old number) header.cycle ≡ true) }
 {
     let plan = OpenPlan::new(header, rows);
     if let Err(fault) = plan.check(&gauge) {
@@ -94,9 +94,9 @@ pub fn run_plan<G: Gauge + Drop, Q: ReadyQueue>(
     queue: Q,
     events: &mut [Event],
 ) -> (Q, Result<(), Fault>)
-    ensures answer { result.1 ≡ run_fault (passed gauge) (head header) records.now number }
-    ensures ran { MatchResult result.1 (λ _. Run held (listed (head header) records.now number) events.old events.new result.0) (λ _. NotRun queue events.old events.new result.0) }
-    ensures passing { OnOk result.1 (passed gauge (listed (head header) records.now number) header.cycle ≡ true) }
+    ensures answer { result.1 ≡ run_fault (G.passed gauge) (head header) records.now number }
+    ensures ran { MatchResult result.1 (λ _. Run Q.held (listed (head header) records.now number) events.old events.new result.0) (λ _. NotRun queue events.old events.new result.0) }
+    ensures passing { OnOk result.1 (G.passed gauge (listed (head header) records.now number) header.cycle ≡ true) }
     ensures refused_lists { RefusedListsLeaveAJobShort }
 {
     let mut rows = [Record::BLANK; MOST];

@@ -4,7 +4,7 @@ use Rattle.boards.proofs.Collecting.{passes_by}
 use Rattle.board_state.specs.Views.{timing_of}
 use Rattle.board.proofs.Gathering.{some_duty, gathers, gathered}
 use Rattle.board.proofs.loads.gather.Goals as goal
-use Rattle.board.proofs.loads.gather.Goals.{then-record-board+in-Some, then-record-board+in-default, else-record-board}
+use Rattle.board.proofs.loads.gather.Goals.{then-record-board+in-Some, then-record-board+in_default, else-record-board}
 
 pub loop-record-preserved : goal.loop-record-preserved
 loop-record-preserved c =
@@ -18,7 +18,7 @@ loop-record-preserved c =
         omega (arith, w.n-is, l.invariant.0),
         (λ k. take (w.n-is k) (map timing_of (w.list-is k)) ++ rest) ∙ gathers rs b i c.loop-record-test.true l.list l.n (omega (arith, l.auto.list, c.requires.room, l.invariant.0, c.loop-record-test.true)) w.in-Some.duty w.if-record-board.true (c.requires.duties i c.loop-record-test.true) w.in-Some.ensures l.invariant.1,
       )
-      | then-record-board+in-default w ↦ absurd (some_duty (get_or rs i no_record) (c.requires.duties i c.loop-record-test.true) w.in-default.ensures)
+      | then-record-board+in_default w ↦ absurd (some_duty (get_or rs i no_record) (c.requires.duties i c.loop-record-test.true) w.in_default.ensures)
       | else-record-board w ↦ (
         omega (arith, w.n-is, l.invariant.0),
         (λ k. take (w.n-is k) (map timing_of (w.list-is k)) ++ rest) ∙ ap (λ r. take l.n (map timing_of l.list) ++ r) (passes_by rs b i no_record c.loop-record-test.true w.if-record-board.false) ∙ l.invariant.1,

@@ -8,6 +8,6 @@ returns c =
     let n = c.min-n.result in
     let rs = c.args.records.now in
     let same : n - 0 ≡ n = omega arith in
-    let copied = c.copy-from-slice.ensures.after ∙ ap (λ (k : ℕ). take k rs) same in
-    let long : length c.copy-from-slice.new.self ≡ n = omega (arith, ap length copied, length-take n rs, c.min-n.ensures) in
-    record { within = omega (arith, c.min-n.ensures); value = take_at c.copy-from-slice.new.self _ n long ∙ copied ∙ take_least rs n (length c.args.rows.now) c.min-n.ensures }
+    let copied = c.copy_from_slice.ensures.after ∙ ap (λ (k : ℕ). take k rs) same in
+    let long : length c.copy_from_slice.new.self ≡ n = omega (arith, ap length copied, length-take n rs, c.min-n.ensures) in
+    record { within = omega (arith, c.min-n.ensures); value = take_at c.copy_from_slice.new.self _ n long ∙ copied ∙ take_least rs n (length c.args.rows.now) c.min-n.ensures }

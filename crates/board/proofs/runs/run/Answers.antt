@@ -9,7 +9,7 @@ use Rattle.board.proofs.runs.run.Goals as goal
 
 pub returns : goal.returns
 returns g c =
-    let ok = c.in-default.ensures in
+    let ok = c.in_default.ensures in
     let start = c.load-running.ensures in
     let played = c.play.ensures start.in_step in
     let before = calls c.args.events.now in

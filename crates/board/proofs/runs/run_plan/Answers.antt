@@ -15,12 +15,12 @@ returns g c =
     let few = c.args.header.few_duties in
     let passes = g.G.Gauge.passed c.args.gauge in
     let number = c.args.number in
-    let same : c.copy-rows-n.result - 0 ≡ c.copy-rows-n.result = omega arith in
-    let rows = ap (λ (k : ℕ). take k c.copy-rows-n.new.rows) same ∙ c.copy-rows-n.ensures.value in
+    let same : c.copy_rows-n.result - 0 ≡ c.copy_rows-n.result = omega arith in
+    let rows = ap (λ (k : ℕ). take k c.copy_rows-n.new.rows) same ∙ c.copy_rows-n.ensures.value in
     let same_list = ap (λ (l : List Record). listed h l number) rows ∙ same_listed h rs 64 few number in
     record {
-      answer = c.run-rows.ensures.answer ∙ ap (λ (l : List Record). run_fault passes h l number) rows ∙ same_fault h rs 64 few passes number;
-      ran = same_run g.Q.ReadyQueue.held _ _ _ _ _ _ _ _ c.run-rows.result.1 same_list refl refl c.run-rows.ensures.ran;
-      passing = subst (λ (l : List Timing). IfOk c.run-rows.result.1 (λ _. passes l h.cycle ≡ true)) same_list c.run-rows.ensures.passing;
+      answer = c.run_rows.ensures.answer ∙ ap (λ (l : List Record). run_fault passes h l number) rows ∙ same_fault h rs 64 few passes number;
+      ran = same_run g.Q.ReadyQueue.held _ _ _ _ _ _ _ _ c.run_rows.result.1 same_list refl refl c.run_rows.ensures.ran;
+      passing = subst (λ (l : List Timing). IfOk c.run_rows.result.1 (λ _. passes l h.cycle ≡ true)) same_list c.run_rows.ensures.passing;
       refused_lists = refused_lists_leave_a_job_short;
     }

@@ -5,5 +5,5 @@ use Rattle.board.proofs.running.RunningBoard.finish.Goals as goal
 
 pub returns : goal.returns
 returns g c =
-    let done = c.in-ok-units.ensures in
+    let done = c.in_ok-units.ensures in
     settled g.Q.ReadyQueue.held c.args.self.now (record { state = c.finish.new.self; queue = c.settle.new.queue }) _ _ c.args.place c.due.result done.answer refl done.board c.due.ensures c.settle.ensures (finish_keeps (board_of c.args.self.now.state) c.args.place)

@@ -14,8 +14,8 @@ returns g c =
     let few : length (take s.count s.places) ≤ width = simp length-take (omega (arith, s.few, s.wide)) in
     let few' : length (map seen (take s.count s.places)) ≤ width = omega (arith, few, length-map (take s.count s.places) seen) in
     record {
-      answer_is = c.general-cancel-ended.ensures.answer;
-      board_is = c.general-cancel-ended.ensures.board;
+      answer_is = c.general_cancel-ended.ensures.answer;
+      board_is = c.general_cancel-ended.ensures.board;
       queue_is = c.clear.ensures;
-      in_step = c.clear.ensures ∙ sym (padded_cancelled s.clock (board_of s).places few') ∙ ap (λ (x : Board). padded width (dues x.places)) (sym c.general-cancel-ended.ensures.board);
+      in_step = c.clear.ensures ∙ sym (padded_cancelled s.clock (board_of s).places few') ∙ ap (λ (x : Board). padded width (dues x.places)) (sym c.general_cancel-ended.ensures.board);
     }
