@@ -1,9 +1,9 @@
 -- The columns hold a name just where they hold a stem and then blanks.
-use Rattle.std.proofs.Common.{◌≡◌, ℕ, zero, suc, ◌+◌, ◌<◌, ◌≤◌, Bool, true, false, cond, eqb, List, [], ◌∷◌, ◌++◌, length, replicate, sym, refl, ap, ◌∙◌, ⊎_elim, arith, length-append}
+use Rattle.std.proofs.Common.{◌≡◌, ℕ, zero, suc, ◌+◌, ◌≤◌, true, eqb, List, [], ◌∷◌, ◌++◌, length, replicate, refl, ap, ◌∙◌, ⊎_elim, arith, length-append}
 use lib.ListN.{length-replicate}
 use Rattle.std.specs.List.{AllByRecursion as All}
 use Rattle.std.proofs.lemmas.Bool.{cases_Bool, cond-true, cond-false, eqb-true, eq-eqb}
-use Rattle.duty.specs.Names.{name_byte, tail_byte, blanks_in, tail_in, name_in, named, Stem, NamesAreStems}
+use Rattle.duty.specs.Names.{name_byte, tail_byte, blanks_in, tail_in, name_in, Stem, NamesAreStems}
 
 -- a run of blanks is counted whole
 blanks_run : (k : ℕ) → blanks_in (replicate k 32) ≡ k

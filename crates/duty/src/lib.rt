@@ -1,4 +1,6 @@
 // Duties, the records they are made from, and the header of a table.
+#![tactic(auto)]
+
 mod duties;
 mod headers;
 mod letters;
