@@ -1,5 +1,5 @@
 -- Each field of a line: what its columns hold where it is read, and that it is read where they hold it.
-use Rattle.std.proofs.Common.{◌≡◌, ℕ, zero, suc, ◌+◌, ◌-◌, ◌^◌, ◌<◌, ◌≤◌, Bool, true, false, cond, ◌&&◌, eqb, ltb, leb, List, [], ◌∷◌, ◌++◌, length, get_or, take, drop, Some, None, Ok, Err, Option, Result, sym, refl, ap, ◌∙◌, ⊎_elim, arith, length-drop, length-take}
+use Rattle.std.proofs.Common.{◌≡◌, ℕ, zero, suc, ◌+◌, ◌-◌, ◌^◌, ◌<◌, ◌≤◌, Bool, true, cond, ◌&&◌, eqb, ltb, leb, List, [], ◌∷◌, ◌++◌, length, get_or, take, drop, Some, None, Ok, Option, sym, refl, ap, ◌∙◌, ⊎_elim, arith, length-drop}
 use Rattle.std.proofs.lemmas.List.{length-take-le}
 use Rattle.std.proofs.lemmas.Bool.{cases_Bool, cond-true, cond-false, and_from, and_parts, eqb-true, eq-eqb, ne_eqb, ltb-false, le-ltb, leb-true, le-leb}
 use Rattle.fault.proofs.Steps.{never, passed_unless, passed_where}
@@ -10,7 +10,7 @@ use Rattle.duty.specs.Names.{name_in}
 use Rattle.columns.specs.declared.fields.Field.{Field}
 use Rattle.columns.specs.Layout.{columns, width}
 use Rattle.columns.specs.Lines.{Part, ends, due, in_range, number_at, matched, word_at, letter_is, letter_at, name_at}
-use Rattle.columns.specs.Numerals.{widest, number_in, justified}
+use Rattle.columns.specs.Numerals.{number_in, justified}
 use Rattle.columns.proofs.Clean.{name_le, ends_long}
 use Rattle.columns.proofs.Justified.{number_only, number_back}
 

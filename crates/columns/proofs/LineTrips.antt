@@ -1,16 +1,14 @@
 -- A line is read just where it is the text of a header or a record within the limits.
-use Rattle.std.proofs.Common.{◌≡◌, ℕ, ◌+◌, ◌-◌, ◌%◌, ◌^◌, ◌<◌, ◌≤◌, Bool, true, false, cond, ◌&&◌, ◌||◌, eqb, ltb, leb, List, [], ◌∷◌, ◌++◌, length, take, drop, Ok, Err, Result, sym, refl, ap, ◌∙◌, subst, arith}
+use Rattle.std.proofs.Common.{◌≡◌, ℕ, ◌+◌, ◌%◌, ◌<◌, ◌≤◌, true, ◌||◌, eqb, ltb, leb, List, [], ◌∷◌, ◌++◌, length, take, drop, Ok, sym, refl, ap, ◌∙◌, subst, arith}
 use Rattle.std.proofs.lemmas.List.{take-append-drop}
 use Rattle.std.proofs.lemmas.Bool.{cond-true, cond-false, and_from, and_parts, or_parts, or_from, eqb-true, eq-eqb, ltb-false, le-ltb, leb-true, le-leb}
 use Rattle.fault.proofs.Steps.{then_ok, then_back, passed_unless, passed_where}
 use Rattle.duty.specs.declared.letters.Letter.{Letter}
 use Rattle.duty.specs.declared.letters.Letter.TheVariants.{Density, Slope, Exact}
 use Rattle.duty.specs.declared.records.Record.{Record}
-use Rattle.duty.specs.declared.timings.Timing.{Timing}
 use Rattle.duty.specs.Heads.{Head, head_limits}
 use Rattle.duty.specs.Letters.{letter_byte}
 use Rattle.duty.specs.Names.{name_in}
-use Rattle.duty.specs.Records.{in_cycle}
 use Rattle.columns.specs.declared.forms.Form.{Form}
 use Rattle.columns.specs.declared.forms.Form.TheVariants.{Table, Plan}
 use Rattle.columns.specs.Forms.{word, line_width}
@@ -20,7 +18,7 @@ use Rattle.columns.specs.Numerals.{justified}
 use Rattle.columns.specs.Tables.{record_of}
 use Rattle.columns.specs.Texts.{header_text, board_text, line_text, Placeless, Writable}
 use Rattle.columns.proofs.Clean.{clean, clean_name, clean_number, ends_long}
-use Rattle.columns.proofs.FieldTrips.{due_only, due_back, Ranged, number_at_only, number_at_back, word_at_only, word_at_back, letter_at_only, letter_at_back, Named, name_at_only, name_at_back}
+use Rattle.columns.proofs.FieldTrips.{due_only, due_back, Ranged, number_at_only, number_at_back, word_at_only, word_at_back, letter_at_only, letter_at_back, name_at_only, name_at_back}
 use Rattle.columns.proofs.Justified.{length_justified}
 use Rattle.columns.proofs.Segments.{Cut, joined_up, length_line, cut}
 

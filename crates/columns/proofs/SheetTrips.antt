@@ -1,5 +1,5 @@
 -- A whole text is read just where it is the one text of a table or plan within all limits.
-use Rattle.std.proofs.Common.{◌≡◌, ℕ, zero, suc, ◌+◌, ◌*◌, ◌<◌, ◌≤◌, Bool, true, false, cond, ltb, List, [], ◌∷◌, ◌++◌, length, take, drop, Ok, Err, Result, sym, refl, ap, ◌∙◌, subst, mul-suc, arith, length-append}
+use Rattle.std.proofs.Common.{◌≡◌, ℕ, zero, suc, ◌+◌, ◌*◌, ◌≤◌, ltb, List, [], ◌∷◌, ◌++◌, length, drop, Ok, sym, refl, ap, ◌∙◌, subst, mul-suc, arith, length-append}
 use Rattle.std.specs.List.{flat_map, AllByRecursion as All}
 use Rattle.std.proofs.lemmas.List.{nil_from_length, drop_at, take-append-drop}
 use Rattle.std.proofs.lemmas.Bool.{cond-false, ltb-false, le-ltb}
@@ -8,10 +8,10 @@ use Rattle.duty.specs.declared.records.Record.{Record}
 use Rattle.columns.specs.declared.forms.Form.{Form}
 use Rattle.columns.specs.Forms.{line_width}
 use Rattle.columns.specs.Laws.{ReadsAs, OneText}
-use Rattle.columns.specs.Lines.{Row, header_line, duty_row}
+use Rattle.columns.specs.Lines.{header_line, duty_row}
 use Rattle.columns.specs.Tables.{record_of, records_of, Sheet, sheet_of}
 use Rattle.columns.specs.Texts.{header_text, line_text, text, text_length, Writable, Valid}
-use Rattle.columns.proofs.LineTrips.{header_only, header_back, length_header, duty_only, duty_back, length_duty, row_at}
+use Rattle.columns.proofs.LineTrips.{header_only, header_back, length_header, duty_only, duty_back, length_duty}
 
 -- what accepted lines are
 record LinesTold (form : Form) (n cycle : ℕ) (bs : List ℕ) (xs : List Record) : Type 0 where

@@ -1,4 +1,6 @@
 // The columns of table and plan texts: where each field stands, and how numbers are read and written there.
+#![tactic(auto)]
+
 mod checks;
 mod fields;
 mod forms;

@@ -1,4 +1,6 @@
 // Refusals: why a call was turned down, where in the text, and which layer found it.
+#![tactic(auto)]
+
 ghost use Rattle.std.specs.Prelude.{◌≡◌};
 ghost use Rattle.fault.specs.declared.Layer.TheVariants.{Call};
 ghost use Rattle.fault.specs.Faults.{fault};

@@ -1,4 +1,6 @@
 // plan: reads a table from standard input and prints its plan, or the one line of its refusal.
+#![tactic(auto)]
+
 use columns::Form;
 use duty::{Header, Record};
 use placing::Lined;

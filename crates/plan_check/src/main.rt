@@ -1,4 +1,6 @@
 // check: reads a plan from standard input and prints OK, or the one line of its refusal.
+#![tactic(auto)]
+
 use columns::Form;
 use duty::{Header, Record};
 use planner::check;

@@ -1,4 +1,6 @@
 // Readers of table and plan texts: a cursor that moves through the text from its start.
+#![tactic(auto)]
+
 mod cursor;
 mod fields;
 mod lines;

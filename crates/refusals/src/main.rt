@@ -1,5 +1,7 @@
 // Runs a table of cases from the standard input, texts with what the reader and the writer are to say to
 // them; prints a line for each that comes out otherwise, and then how many there were.
+#![tactic(auto)]
+
 mod calls;
 mod cases;
 mod changes;

@@ -1,5 +1,7 @@
 // walkthrough: takes a table from standard input through the library's calls one by one, and prints
 // what each did, up to the plan or the first refusal.
+#![tactic(auto)]
+
 use columns::Form;
 use duty::{Header, Record};
 use fault::Fault;

@@ -1,4 +1,6 @@
 // The texts of tables and plans, written into lent memory.
+#![tactic(auto)]
+
 mod cursor;
 #[cfg(test)]
 mod tests;

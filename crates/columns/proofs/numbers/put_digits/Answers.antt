@@ -1,4 +1,4 @@
-use Rattle.std.proofs.Common.{◌≡◌, ◌+◌, ◌-◌, ◌/◌, ◌<◌, ◌∙◌, arith, length-set}
+use Rattle.std.proofs.Common.{◌≡◌, ◌+◌, ◌-◌, ◌/◌, ◌∙◌, arith, length-set}
 use Rattle.std.proofs.lemmas.Fmt.{decimal_nonempty}
 use Rattle.columns.proofs.Writing.{digits_step, write_digit, write_last, write_blank}
 use Rattle.columns.proofs.numbers.put_digits.Goals as goal

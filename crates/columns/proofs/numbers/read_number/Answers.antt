@@ -1,7 +1,7 @@
 use Rattle.std.proofs.Common.{◌≡◌, length, drop, sym, ap, ◌∙◌, arith}
 use Rattle.std.proofs.lemmas.List.{take_rest}
 use Rattle.std.proofs.lemmas.Bool.{cond-true, cond-false, le-leb, lt-leb}
-use Rattle.columns.specs.Numerals.{plain, numeral, number_in}
+use Rattle.columns.specs.Numerals.{plain, numeral}
 use Rattle.columns.proofs.Justified.{both_ways}
 use Rattle.columns.proofs.Reading.{numeral_more, numeral_stop, numeral_end}
 use Rattle.columns.proofs.numbers.read_number.Goals as goal
