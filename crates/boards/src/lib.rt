@@ -1,4 +1,6 @@
 // The list of a board: the timings of its records, in the order of their lines.
+#![tactic(auto)]
+
 ghost use Rattle.std.specs.Prelude.{◌≡◌, ◌+◌, ◌<◌, ◌≤◌, ◌++◌, length, take, MatchOption};
 ghost use Rattle.boards.specs.Lists.{on_board, board_passed};
 

@@ -1,5 +1,7 @@
 // compare: reads cases with the answers of an outside implementation from standard input, asks the
 // gauges and placing the same, and prints each answer that differs, and how many agree.
+#![tactic(auto)]
+
 mod ask;
 mod cases;
 mod figures;

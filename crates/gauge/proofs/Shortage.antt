@@ -1,5 +1,5 @@
 -- Where the demand up to t is more than t, the t ticks before t cannot serve every job that is due by t.
-use Rattle.std.proofs.Common.{◌≡◌, ℕ, zero, suc, ◌+◌, ◌*◌, ◌<◌, ◌≤◌, true, false, ◌⊎◌, List, [], ◌∷◌, length, Some, sym, ap, ◌∙◌, inl, inr, ⊎_elim, add-zero, add-suc, suc-add, mul-zero, zero-add, mul-suc, arith}
+use Rattle.std.proofs.Common.{◌≡◌, ℕ, zero, suc, ◌+◌, ◌*◌, ◌<◌, ◌≤◌, ◌⊎◌, List, [], ◌∷◌, length, Some, sym, ap, ◌∙◌, inl, inr, ⊎_elim, add-zero, add-suc, suc-add, mul-zero, zero-add, mul-suc, arith}
 use Rattle.std.specs.List.{slice_get, AllByRecursion as All}
 use Rattle.std.proofs.lemmas.Bool.{leb-false, cases_lt, and_cases, both_ways}
 use Rattle.duty.specs.declared.timings.Timing.{Timing}

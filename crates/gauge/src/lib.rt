@@ -1,4 +1,6 @@
 // Gauges: schedulability tests over lists of plain timings.
+#![tactic(auto)]
+
 mod by_letter;
 mod density;
 mod exact;

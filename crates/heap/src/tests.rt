@@ -50,7 +50,7 @@ fn an_entry_is_removed_from_the_middle(rt: HostRuntime) {
     let mut heap = Heap::resume(&mut slots, 7);
     assert_eq!(rt; heap.remove(7), None);
     assert_eq!(rt; heap.remove(3), Some(10));
-    assert_eq!(rt; heap.entries(), &[1, 4, 2, 9, 11, 3]);
+    assert_eq!(rt; heap.entries(), [1, 4, 2, 9, 11, 3].as_slice());
     assert_eq!(rt; heap.len(), 6);
 }
 

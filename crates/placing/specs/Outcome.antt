@@ -1,5 +1,5 @@
 -- What placing makes of the records, and what it answers.
-use Rattle.std.specs.Prelude.{ℕ, Bool, cond, List, ◌++◌, length, take, drop, Some, None, Ok, Err, Option, Result, nat_lt}
+use Rattle.std.specs.Prelude.{ℕ, Bool, cond, List, ◌++◌, take, drop, Some, None, Ok, Err, Option, Result, nat_lt}
 use Rattle.fault.specs.declared.Cause.TheVariants.{ScratchShort, NoBoardFits}
 use Rattle.fault.specs.declared.Fault.{Fault}
 use Rattle.fault.specs.declared.Layer.TheVariants.{Call}

@@ -1,4 +1,4 @@
-use Rattle.std.proofs.Common.{◌≡◌, ◌+◌, ◌++◌, length, get_or, take, drop, sym, ap, ◌∙◌, append-nil, arith, length-append, length-set}
+use Rattle.std.proofs.Common.{◌+◌, ◌++◌, length, get_or, take, drop, sym, ap, ◌∙◌, append-nil, arith, length-append, length-set}
 use Rattle.std.proofs.lemmas.List.{at_drop_all, length-take-le}
 use Rattle.boards.specs.Lists.{on_board, no_record}
 use Rattle.boards.proofs.Collecting.{collects, passes_by, too_many}

@@ -1,4 +1,4 @@
-use Rattle.std.proofs.Common.{◌≡◌, ◌≤◌, length, take}
+use Rattle.std.proofs.Common.{◌≡◌, length, take}
 use Rattle.std.specs.List.Sorted.{IsPermutation}
 use Rattle.heap.specs.Held.{held, memory}
 use Rattle.heap.specs.Order.{Heaped}

@@ -2,7 +2,7 @@ use Rattle.std.proofs.Common.{◌≡◌, ℕ, length, sym, refl, ap, ◌∙◌, 
 use Rattle.std.specs.List.Sorted.{IsPermutation}
 use Rattle.std.proofs.lemmas.List.{take_all}
 use Rattle.heap.specs.Held.{held, memory}
-use Rattle.placing.specs.FirstFit.{placed, cleared}
+use Rattle.placing.specs.FirstFit.{placed}
 use Rattle.placing.specs.Order.{lined, taken}
 use Rattle.placing.specs.Outcome.{placed_answer, first_fit}
 use Rattle.placing.specs.Scratch.{Past}

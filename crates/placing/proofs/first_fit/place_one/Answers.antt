@@ -1,8 +1,8 @@
-use Rattle.std.proofs.Common.{◌≡◌, ℕ, ◌+◌, ◌-◌, true, false, not, eqb, sym, ap, ◌∙◌, arith}
+use Rattle.std.proofs.Common.{◌≡◌, ℕ, true, false, not, eqb, sym, ap, ◌∙◌, arith}
 use Rattle.std.proofs.lemmas.Bool.{ne_eqb}
 use Rattle.boards.specs.Lists.{on_board}
 use Rattle.boards.proofs.Few.{passed_few}
-use Rattle.placing.specs.FirstFit.{seat, lowest, takes, fit}
+use Rattle.placing.specs.FirstFit.{seat, takes, fit}
 use Rattle.placing.proofs.Seating.{seat_again, length_seat, lowest_here, lowest_next}
 use Rattle.placing.proofs.first_fit.place_one.Goals as goal
 

@@ -1,12 +1,11 @@
-use Rattle.std.proofs.Common.{◌≡◌, ◌<◌, ◌≤◌, true, false, eqb, [], ◌∷◌, length, sym, refl, ap, ◌∙◌, arith}
+use Rattle.std.proofs.Common.{◌≡◌, ◌<◌, true, false, [], length, sym, ap, ◌∙◌, arith}
 use Rattle.std.proofs.lemmas.List.{nil_from_length}
 use Rattle.std.proofs.lemmas.List.Sorted.{length_permutation}
 use Rattle.std.proofs.ByRecursion.{all_shuffled}
-use Rattle.std.proofs.lemmas.Bool.{not-true, not-false}
 use Rattle.heap.specs.Held.{held, memory}
 use Rattle.heap.proofs.Draining.{none_left}
-use Rattle.placing.specs.FirstFit.{seat, fit, placed}
-use Rattle.placing.specs.Order.{sooner, taken}
+use Rattle.placing.specs.FirstFit.{placed}
+use Rattle.placing.specs.Order.{taken}
 use Rattle.placing.specs.Outcome.{placed_answer}
 use Rattle.placing.proofs.Taking.{goes_on, stops, past_on}
 use Rattle.placing.proofs.first_fit.take_all.Goals as goal

@@ -1,4 +1,4 @@
-use Rattle.std.proofs.Common.{◌-◌, ◌++◌, length, take, drop, ap, ◌∙◌, arith, length-take}
+use Rattle.std.proofs.Common.{◌-◌, ◌++◌, length, drop, ap, ◌∙◌, arith, length-take}
 use Rattle.duty.specs.Heads.{head}
 use Rattle.placing.proofs.Whole.{placed_law, within_time, no_fault, past_part, answer_is, after_is}
 use Rattle.placing.proofs.places.place.Goals as goal
