@@ -1,4 +1,6 @@
 // The state of a running board, all but its queue: the clock, and the places with their duties and jobs.
+#![tactic(auto)]
+
 mod places;
 mod states;
 mod turns;

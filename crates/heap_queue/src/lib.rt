@@ -1,4 +1,6 @@
 // A ready queue that is a heap, in memory that is handed in.
+#![tactic(auto)]
+
 mod heap_queue;
 mod slots;
 mod timed;

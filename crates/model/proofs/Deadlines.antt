@@ -1,5 +1,5 @@
 -- What a job gets: never more than its units, and all of them by its deadline.
-use Rattle.std.proofs.Common.{◌≡◌, ℕ, ◌+◌, ◌-◌, ◌<◌, ◌≤◌, Bool, true, false, cond, ltb, List, [], ◌∷◌, ◌++◌, map, Some, None, Option, sym, refl, ap, ◌∙◌, subst, ⊎_elim, arith}
+use Rattle.std.proofs.Common.{◌≡◌, ℕ, ◌+◌, ◌-◌, ◌<◌, ◌≤◌, true, false, ltb, List, [], ◌∷◌, Some, None, Option, refl, ap, ◌∙◌, subst, ⊎_elim, arith}
 use Rattle.std.specs.List.{slice_get, AllByRecursion as All}
 use Rattle.std.proofs.lemmas.Bool.{cond_both, cases_lt, ltb-true, ltb-false, lt-ltb, le-ltb, both_ways, eq-eqb}
 use Rattle.duty.specs.declared.timings.Timing.{Timing}
@@ -7,19 +7,18 @@ use Rattle.duty.specs.Demand.{demands}
 use Rattle.gauge.specs.Fairness.{Timed}
 use Rattle.model.specs.declared.jobs.Job.{Job}
 use Rattle.model.specs.declared.jobs.Job.TheVariants.{Idle as idle, Waiting as waiting}
-use Rattle.model.specs.declared.calls.Call.{Call}
-use Rattle.model.specs.declared.calls.Call.TheVariants.{Arrive as arrive, Tick as tick}
+use Rattle.model.specs.declared.calls.Call.TheVariants.{Arrive as arrive}
 use Rattle.model.specs.declared.calls.Answer.{Answer}
 use Rattle.model.specs.declared.calls.Answer.TheVariants.{Granted as granted}
 use Rattle.model.specs.declared.calls.Event.{Event}
 use Rattle.model.specs.Boards.{Place, Board, loaded}
 use Rattle.model.specs.Steps.{too_soon, spent, after, Outcome, arriving, step}
 use Rattle.model.specs.Events.{accepted, arrives, ends_job, clock, job_got, Undisturbed}
-use Rattle.model.specs.Promises.{Owed, EachJobHasItsCostByItsDeadline}
+use Rattle.model.specs.Promises.{EachJobHasItsCostByItsDeadline}
 use Rattle.model.proofs.Lists.{nth_map}
-use Rattle.model.proofs.Invariant.{Sound, Kept}
-use Rattle.model.proofs.Keeping.{Pending, pending, sound_at, not_overdue, kept_step, kept_loaded}
-use Rattle.model.proofs.Effects.{Effect, begins, stays, works, ends, clears, Moved, moved}
+use Rattle.model.proofs.Invariant.{Kept}
+use Rattle.model.proofs.Keeping.{pending, sound_at, not_overdue, kept_step, kept_loaded}
+use Rattle.model.proofs.Effects.{Effect, begins, stays, works, ends, clears, moved}
 use Rattle.model.proofs.Traces.{Answered, reached, answered_left, answered_right, kept_reached, clock_reached, still_loaded}
 
 -- the units left of a job

@@ -1,5 +1,5 @@
 -- What a call does to one place, told by the call and its answer.
-use Rattle.std.proofs.Common.{◌≡◌, ℕ, ◌+◌, Bool, true, false, cond, eqb, ltb, List, map, set, Some, None, Option, sym, refl, ap, ◌∙◌, subst, ⊎_elim, arith}
+use Rattle.std.proofs.Common.{◌≡◌, ℕ, ◌+◌, true, false, eqb, ltb, set, Some, None, Option, sym, refl, ap, ◌∙◌, subst, ⊎_elim, arith}
 use Rattle.std.specs.List.{slice_get}
 use Rattle.std.proofs.lemmas.Bool.{cond_both, cases_eq, eq-eqb, ne_eqb, and_right}
 use Rattle.queue.specs.First.{earliest}
@@ -11,7 +11,7 @@ use Rattle.model.specs.declared.calls.Answer.{Answer}
 use Rattle.model.specs.declared.calls.Answer.TheVariants.{Granted as granted, Finished as finished, Ran as ran}
 use Rattle.model.specs.declared.calls.Event.{Event}
 use Rattle.model.specs.Boards.{Place, Board, dues}
-use Rattle.model.specs.Steps.{clock_limit, too_soon, after, Outcome, accepting, arriving, finishing, finishing_job, ticking, served_at, step}
+use Rattle.model.specs.Steps.{clock_limit, too_soon, after, Outcome, accepting, arriving, finishing, finishing_job, ticking, step}
 use Rattle.model.specs.Events.{ticks_in, gets, arrives, ends_job, is_cancel}
 use Rattle.model.proofs.Lists.{some_same, nth_set_same, nth_set_other, nth_map}
 use Rattle.model.proofs.Firsts.{Leads, Told, told}

@@ -1,7 +1,7 @@
 -- What the first place of a board's deadlines says of the jobs.
-use Rattle.std.proofs.Common.{◌≡◌, ℕ, zero, suc, ◌≤◌, List, [], ◌∷◌, get_or, Some, None, Option, sym, refl, ap, subst, ⊎_elim, arith}
+use Rattle.std.proofs.Common.{◌≡◌, ℕ, zero, suc, ◌≤◌, List, [], ◌∷◌, get_or, Some, None, Option, refl, subst, ⊎_elim, arith}
 use Rattle.std.specs.List.{slice_get, AllByRecursion as All}
-use Rattle.queue.specs.First.{earliest, FirstPlace, Foremost}
+use Rattle.queue.specs.First.{earliest, Foremost}
 use Rattle.queue.proofs.Foremosts.{foremost}
 use Rattle.model.specs.declared.jobs.Job.{Job}
 use Rattle.model.specs.declared.jobs.Job.TheVariants.{Idle as idle, Waiting as waiting}

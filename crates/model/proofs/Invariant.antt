@@ -1,6 +1,6 @@
 -- What every state of a board keeps: for each instant t ahead, the work that is due by then, with what may
 -- still arrive and be due by then, fits into the time that is left.
-use Rattle.std.proofs.Common.{◌≡◌, ℕ, ◌+◌, ◌-◌, ◌≤◌, max, cond, leb, List, Some, None, Option}
+use Rattle.std.proofs.Common.{◌≡◌, ℕ, ◌+◌, ◌-◌, ◌≤◌, max, cond, leb, Some, None, Option}
 use Rattle.std.specs.List.{AllByRecursion as All}
 use Rattle.duty.specs.declared.timings.Timing.{Timing}
 use Rattle.duty.specs.Demand.{demand}

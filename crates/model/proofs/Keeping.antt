@@ -1,5 +1,5 @@
 -- A loaded board keeps the invariant, and so does every call.
-use Rattle.std.proofs.Common.{◌≡◌, ℕ, ◌+◌, ◌-◌, ◌<◌, ◌≤◌, max, Bool, true, false, cond, ltb, leb, List, map, set, Some, None, Option, sym, refl, ap, ◌∙◌, subst, ⊎_elim, le_trans, arith}
+use Rattle.std.proofs.Common.{◌≡◌, ℕ, ◌+◌, ◌-◌, ◌<◌, ◌≤◌, max, false, cond, ltb, leb, List, map, set, Some, None, Option, sym, refl, ap, subst, ⊎_elim, le_trans, arith}
 use Rattle.std.specs.List.{slice_get, AllByRecursion as All}
 use Rattle.std.proofs.ByRecursion.{All-set, All-map, All-weaker}
 use Rattle.std.proofs.lemmas.Bool.{cases_lt, cond_both, ltb-true, ltb-false, le-leb, lt-leb}
@@ -16,7 +16,7 @@ use Rattle.model.specs.declared.calls.Call.{Call}
 use Rattle.model.specs.declared.calls.Call.TheVariants.{Arrive as arrive, Tick as tick, Finish as finish, GeneralCancel as cancel}
 use Rattle.model.specs.Boards.{Place, Board, fresh, loaded, due, dues}
 use Rattle.model.specs.Steps.{clock_limit, too_soon, spent, after, Outcome, arriving, finishing, finishing_job, ticking, step}
-use Rattle.model.proofs.Lists.{none_some, all_nth, all_both, total_set, total_has}
+use Rattle.model.proofs.Lists.{none_some, all_nth, total_set, total_has}
 use Rattle.model.proofs.Firsts.{NoneBefore, Leads, Told, told}
 use Rattle.model.proofs.Demands.{demand_next, demand_none}
 use Rattle.model.proofs.Invariant.{due_by, next_after, next, load, JobSound, Sound, Kept}

@@ -1,5 +1,5 @@
 -- Lists of events as a board answers them, cut into parts: what holds at each cut.
-use Rattle.std.proofs.Common.{◌≡◌, ℕ, ◌+◌, cond, ltb, List, [], ◌∷◌, ◌++◌, map, set, Some, None, Option, sym, refl, ap, ◌∙◌, subst, arith}
+use Rattle.std.proofs.Common.{◌≡◌, ℕ, ◌+◌, ltb, List, [], ◌∷◌, ◌++◌, map, set, Some, None, Option, sym, refl, ap, ◌∙◌, subst, arith}
 use Rattle.std.specs.List.{slice_get}
 use Rattle.std.proofs.lemmas.Bool.{cond_both}
 use Rattle.fault.specs.declared.Cause.TheVariants.{ClockFull}
@@ -11,7 +11,7 @@ use Rattle.model.specs.declared.calls.Call.{Call}
 use Rattle.model.specs.declared.calls.Call.TheVariants.{Arrive as arrive, Tick as tick, Finish as finish, GeneralCancel as cancel}
 use Rattle.model.specs.declared.calls.Answer.{Answer}
 use Rattle.model.specs.declared.calls.Event.{Event}
-use Rattle.model.specs.Boards.{Place, Board, fresh, loaded, dues}
+use Rattle.model.specs.Boards.{Place, Board, loaded, dues}
 use Rattle.model.specs.Steps.{clock_limit, too_soon, after, Outcome, refusing, arriving, finishing, finishing_job, ticking, served_at, step, run}
 use Rattle.model.specs.Events.{ticks_in, clock}
 use Rattle.model.proofs.Lists.{map_set_same, map_same}

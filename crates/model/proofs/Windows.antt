@@ -1,5 +1,5 @@
 -- How many ticks a duty can get in a window.
-use Rattle.std.proofs.Common.{◌≡◌, ℕ, ◌+◌, ◌-◌, ◌*◌, ◌/◌, ◌<◌, ◌≤◌, max, Bool, true, false, List, [], ◌∷◌, ◌++◌, Some, None, Option, sym, refl, ap, ◌∙◌, subst, ⊎_elim, le_trans, mul-le-mul_left, le-div_iff_mul-le, div-mul-le_self, arith}
+use Rattle.std.proofs.Common.{◌≡◌, ℕ, ◌+◌, ◌-◌, ◌*◌, ◌/◌, ◌<◌, ◌≤◌, max, false, List, [], ◌∷◌, ◌++◌, Some, sym, refl, ap, ◌∙◌, subst, ⊎_elim, le_trans, mul-le-mul_left, le-div_iff_mul-le, div-mul-le_self, arith}
 use native.Mathlib.Nat.{div-eq_of_lt, div-eq-sub-div}
 use Rattle.std.specs.List.{slice_get, AllByRecursion as All}
 use Rattle.std.proofs.lemmas.Bool.{cases_lt, both_ways}
@@ -15,8 +15,8 @@ use Rattle.model.specs.Events.{ticks_in, clock, gets, got, is_cancel, Uncancelle
 use Rattle.model.specs.Promises.{TicksInAWindowAreBounded}
 use Rattle.model.proofs.Lists.{nth_source}
 use Rattle.model.proofs.Invariant.{next_after, next, Sound, Kept}
-use Rattle.model.proofs.Keeping.{next_now, next_least, next_rises, Pending, pending, sound_at, not_overdue, kept_step, kept_loaded}
-use Rattle.model.proofs.Effects.{Effect, begins, stays, works, ends, clears, Moved, moved}
+use Rattle.model.proofs.Keeping.{next_now, next_least, next_rises, pending, sound_at, not_overdue, kept_step, kept_loaded}
+use Rattle.model.proofs.Effects.{Effect, begins, stays, works, ends, clears, moved}
 use Rattle.model.proofs.Traces.{Answered, reached, answered_left, answered_right, kept_reached, still_loaded}
 use Rattle.model.proofs.Deadlines.{left, left_served}
 

@@ -1,4 +1,6 @@
 // The running board as a definition: what each call does and answers, and what a board promises of every run.
+#![tactic(auto)]
+
 mod calls;
 mod jobs;
 

@@ -1,5 +1,5 @@
 -- Which place is first: the one with the smallest deadline, the lower one where equal.
-use Rattle.std.specs.Prelude.{◌≡◌, ℕ, ◌+◌, ◌<◌, ◌≤◌, cond, ◌⊎◌, List, [], ◌∷◌, length, get_or, Some, None, Option, nat_lt, slice_index_or}
+use Rattle.std.specs.Prelude.{◌≡◌, ℕ, ◌+◌, ◌<◌, ◌≤◌, cond, ◌⊎◌, List, [], ◌∷◌, get_or, Some, None, Option, nat_lt, slice_index_or}
 use Rattle.std.specs.Option.{option_map}
 
 -- a place and its deadline

@@ -1,4 +1,6 @@
 // Ready queues: which of the places of a board has the earliest deadline.
+#![tactic(auto)]
+
 mod ready;
 mod row;
 

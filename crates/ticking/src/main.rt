@@ -1,5 +1,7 @@
 // ticking: runs a full board of 64 duties for as many ticks as its second argument says, on the queue that the first
 // one names (row or heap), and prints a sum over the places that got them.
+#![tactic(auto)]
+
 use anyhow::anyhow;
 use board::{BareBoard, RunningBoard};
 use duty::{Header, Letter, Name, Record, Timing};

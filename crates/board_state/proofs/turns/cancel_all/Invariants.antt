@@ -1,4 +1,4 @@
-use Rattle.std.proofs.Common.{◌≡◌, ◌++◌, map, length, take, drop}
+use Rattle.std.proofs.Common.{◌≡◌, ◌++◌, map, take, drop}
 use Rattle.model.specs.declared.calls.Call.TheVariants.{GeneralCancel}
 use Rattle.model.specs.Steps.{after}
 use Rattle.board_state.specs.Views.{seen}

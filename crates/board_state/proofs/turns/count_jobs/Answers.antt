@@ -1,4 +1,4 @@
-use Rattle.std.proofs.Common.{◌≡◌, ◌+◌, length, get_or, drop, ap, arith}
+use Rattle.std.proofs.Common.{◌≡◌, ◌+◌, get_or, drop, ap, arith}
 use Rattle.std.proofs.lemmas.List.{at_drop_more, at_drop_all}
 use Rattle.model.specs.Boards.{one_if_waiting}
 use Rattle.board_state.specs.declared.places.Place.{Place}

@@ -4,7 +4,7 @@ use Rattle.std.proofs.lemmas.List.{take-map}
 use Rattle.gauge.specs.Totals.{total_map}
 use Rattle.model.specs.declared.calls.Answer.TheVariants.{Cancelled}
 use Rattle.model.specs.declared.calls.Call.TheVariants.{GeneralCancel}
-use Rattle.model.specs.Boards.{Place as Seen, Board, one_if_waiting}
+use Rattle.model.specs.Boards.{Place as Seen, one_if_waiting}
 use Rattle.model.specs.Steps.{after}
 use Rattle.board_state.specs.declared.places.Place.{Place}
 use Rattle.board_state.specs.Views.{seen, jobs_of}

@@ -1,9 +1,8 @@
-use Rattle.std.proofs.Common.{◌≡◌, ◌≤◌, List, map, length, take, set, sym, refl, ap, ◌∙◌, arith, length-set, length-take}
+use Rattle.std.proofs.Common.{◌≤◌, map, length, take, set, sym, refl, ap, ◌∙◌, arith, length-set, length-take}
 use lib.ListN.{length-map}
 use Rattle.std.proofs.lemmas.List.{map-set, set_past}
 use Rattle.gauge.specs.Each.{each}
 use Rattle.model.specs.Boards.{Place as Seen}
-use Rattle.board_state.specs.declared.places.Place.{Place}
 use Rattle.board_state.specs.Past.{past}
 use Rattle.board_state.specs.Views.{seen}
 use Rattle.board_state.proofs.Seeing.{each_set, take_set_in}

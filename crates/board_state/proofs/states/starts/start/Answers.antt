@@ -1,4 +1,4 @@
-use Rattle.std.proofs.Common.{◌≡◌, ℕ, ◌≤◌, List, map, length, ap, ◌∙◌, arith}
+use Rattle.std.proofs.Common.{◌≡◌, ◌≤◌, List, map, length, ap, ◌∙◌, arith}
 use Rattle.gauge.specs.Each.{each}
 use Rattle.model.specs.Boards.{Place as Seen}
 use Rattle.model.specs.Steps.{clock_limit}
