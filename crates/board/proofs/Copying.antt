@@ -1,9 +1,8 @@
 -- A plan and the copy of its first 64 records are closed and run alike.
-use Rattle.std.proofs.Common.{◌≡◌, ℕ, ◌<◌, ◌≤◌, min, Bool, cond, ltb, List, length, take, Err, Result, sym, ap, ◌∙◌, ap₂, ⊎_elim, arith, length-take}
+use Rattle.std.proofs.Common.{◌≡◌, ℕ, ◌<◌, ◌≤◌, min, Bool, cond, ltb, List, length, take, Err, sym, ap, ◌∙◌, ap₂, ⊎_elim, arith, length-take}
 use Rattle.std.proofs.lemmas.List.{take_all, take-take}
 use Rattle.std.proofs.lemmas.Bool.{cases_lt, lt-ltb, le-ltb}
 use Rattle.fault.specs.declared.Cause.TheVariants.{RecordsShort}
-use Rattle.fault.specs.declared.Fault.{Fault}
 use Rattle.fault.specs.declared.Layer.TheVariants.{Call}
 use Rattle.fault.specs.Faults.{fault, then}
 use Rattle.duty.specs.declared.records.Record.{Record}

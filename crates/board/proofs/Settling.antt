@@ -1,5 +1,5 @@
 -- A queue is settled at the place that a call concerned, and so stays in step.
-use Rattle.std.proofs.Common.{◌≡◌, ℕ, ◌+◌, Bool, true, false, cond, ltb, List, set, Some, None, Option, sym, refl, ap, ◌∙◌, subst, arith}
+use Rattle.std.proofs.Common.{◌≡◌, ℕ, ◌+◌, true, ltb, List, set, Some, None, Option, sym, refl, ap, ◌∙◌, subst, arith}
 use Rattle.std.specs.List.{slice_get}
 use Rattle.std.proofs.lemmas.Bool.{cond_both, cond-true}
 use Rattle.fault.specs.declared.Cause.TheVariants.{ClockFull}
@@ -10,16 +10,15 @@ use Rattle.model.specs.declared.jobs.Job.{Job}
 use Rattle.model.specs.declared.jobs.Job.TheVariants.{Idle as idle, Waiting as waiting}
 use Rattle.model.specs.declared.calls.Answer.{Answer}
 use Rattle.model.specs.declared.calls.Answer.TheVariants.{Ran as ran}
-use Rattle.model.specs.declared.calls.Call.{Call}
 use Rattle.model.specs.declared.calls.Call.TheVariants.{Arrive as arrive, Tick as tick, Finish as finish}
 use Rattle.model.specs.Boards.{Place, Board, dues}
 use Rattle.model.specs.Events.{accepted}
 use Rattle.model.specs.Queues.{padded, InStep, due_at}
-use Rattle.model.specs.Steps.{clock_limit, too_soon, after, Outcome, refusing, accepting, arriving, finishing, finishing_job, served_at, ticking, ticked, step}
+use Rattle.model.specs.Steps.{clock_limit, too_soon, after, Outcome, refusing, arriving, finishing, finishing_job, served_at, ticking, ticked, step}
 use Rattle.model.proofs.Queueing.{first_in_step, padded_set, padded_same}
 use Rattle.board_state.specs.BoardOf.{board_of}
 use Rattle.board.specs.declared.running.RunningBoard.{RunningBoard}
-use Rattle.board.specs.Calls.{held_after, ComesTo, CalledAt, Ticked, TickedFirst}
+use Rattle.board.specs.Calls.{held_after, ComesTo, Ticked, TickedFirst}
 
 -- Boards.
 

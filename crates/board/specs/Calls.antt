@@ -6,7 +6,6 @@ use Rattle.queue.specs.Places.{all_empty}
 use Rattle.model.specs.declared.calls.Answer.{Answer}
 use Rattle.model.specs.declared.calls.Call.{Call}
 use Rattle.model.specs.declared.calls.Call.TheVariants.{Tick, GeneralCancel}
-use Rattle.model.specs.Boards.{Board}
 use Rattle.model.specs.Events.{accepted}
 use Rattle.model.specs.Queues.{InStep, due_at}
 use Rattle.model.specs.Steps.{Outcome, ticked, step}

@@ -1,3 +1,5 @@
+#![tactic(auto)]
+
 mod bare;
 mod loads;
 mod running;

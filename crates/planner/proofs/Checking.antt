@@ -1,7 +1,6 @@
 -- Reading and then closing: from what each answers to what the whole answers, and its law.
-use Rattle.std.proofs.Common.{◌≡◌, ℕ, ◌≤◌, List, ◌++◌, length, drop, Ok, Err, Result, sym, refl, ap, ◌∙◌}
+use Rattle.std.proofs.Common.{◌≡◌, ℕ, List, ◌++◌, length, drop, Ok, Err, Result, sym, refl, ap, ◌∙◌}
 use Rattle.fault.specs.declared.Fault.{Fault}
-use Rattle.fault.specs.Faults.{then}
 use Rattle.fault.proofs.Steps.{never, then_ok, then_err}
 use Rattle.duty.specs.declared.records.Record.{Record}
 use Rattle.duty.specs.Heads.{Head}

@@ -1,4 +1,6 @@
 // From a table's text to its plan's text.
+#![tactic(auto)]
+
 ghost use Rattle.std.specs.Prelude.{◌≡◌, ◌≤◌, length, IfOk};
 ghost use Rattle.columns.specs.declared.forms.Form.TheVariants.{Table};
 ghost use Rattle.columns.specs.Tables.{sheet_of};

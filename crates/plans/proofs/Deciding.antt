@@ -1,5 +1,5 @@
 -- Closing is refused just where the plan is not one that can be closed.
-use Rattle.std.proofs.Common.{◌≡◌, ℕ, zero, suc, ◌+◌, ◌<◌, ◌≤◌, Bool, true, false, cond, ◌&&◌, ltb, leb, List, length, get_or, take, Some, None, Ok, Err, Option, Result, sym, refl, ap, ◌∙◌, ⊎_elim, arith}
+use Rattle.std.proofs.Common.{◌≡◌, ℕ, zero, suc, ◌+◌, ◌<◌, ◌≤◌, Bool, true, ltb, leb, List, length, get_or, take, Some, None, Ok, Err, Option, Result, sym, refl, ap, ◌∙◌, ⊎_elim, arith}
 use Rattle.std.proofs.lemmas.List.{get_or-take, length-take-le}
 use Rattle.std.proofs.lemmas.Bool.{cases_eq, cond-true, cond-false, and_from, and_parts, le-leb, leb-true, ltb-false, le-ltb}
 use Rattle.fault.specs.declared.Fault.{Fault}
@@ -10,9 +10,9 @@ use Rattle.duty.specs.declared.timings.Timing.{Timing}
 use Rattle.duty.specs.Demand.{demands}
 use Rattle.duty.specs.Heads.{Head}
 use Rattle.duty.specs.Limits.{most_duties}
-use Rattle.duty.specs.Records.{in_cycle, first_misfit}
+use Rattle.duty.specs.Records.{in_cycle}
 use Rattle.columns.specs.Checks.{misfit_fault, records_fault}
-use Rattle.boards.specs.Lists.{on_board, no_record, board_passed}
+use Rattle.boards.specs.Lists.{no_record, board_passed}
 use Rattle.boards.proofs.Few.{passed_few}
 use Rattle.plans.specs.Closing.{on_some, first_homeless, homeless_fault, overfull_fault, close_fault}
 use Rattle.plans.specs.Laws.{Closable, Decides, Kept}

@@ -1,4 +1,6 @@
 // Plans: open, and then closed.
+#![tactic(auto)]
+
 mod checks;
 mod closed;
 mod open;

@@ -1,6 +1,8 @@
 // protocol: takes a board through all that there is to do with one, in the only order that builds. A plan is
 // checked and closed, a bare board loaded from it; then jobs arrive and ticks pass, until it is bare again.
 // Under must-not-build/ stand uses out of this order.
+#![tactic(auto)]
+
 use anyhow::anyhow;
 use board::BareBoard;
 use duty::{Header, Letter, Name, Record, Timing};

@@ -1,4 +1,6 @@
 // replan: makes the plan of a table as many times over as its argument says, and prints it once.
+#![tactic(auto)]
+
 ghost use Rattle.std.specs.Prelude.{◌≤◌, length, IfOk};
 
 use anyhow::anyhow;

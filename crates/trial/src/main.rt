@@ -1,4 +1,5 @@
 // trial: reads a plan and calls on its boards from standard input, runs the boards, and prints what each call answered.
+#![tactic(auto)]
 
 mod options;
 mod play;

@@ -1,4 +1,6 @@
 // Trials of a plan: calls on its boards as lines of text, and what they answered as lines and as a chart.
+#![tactic(auto)]
+
 mod charts;
 mod commands;
 mod replies;

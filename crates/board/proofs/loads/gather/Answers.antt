@@ -1,4 +1,4 @@
-use Rattle.std.proofs.Common.{◌≡◌, ◌+◌, ◌++◌, map, length, get_or, take, drop, sym, ap, ◌∙◌, arith}
+use Rattle.std.proofs.Common.{◌+◌, ◌++◌, map, get_or, take, drop, ap, ◌∙◌, arith}
 use Rattle.boards.specs.Lists.{on_board, no_record}
 use Rattle.boards.proofs.Collecting.{passes_by}
 use Rattle.board_state.specs.Views.{timing_of}

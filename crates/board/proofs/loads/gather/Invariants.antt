@@ -1,4 +1,4 @@
-use Rattle.std.proofs.Common.{◌≡◌, ◌≤◌, ◌++◌, map, length, take, drop}
+use Rattle.std.proofs.Common.{◌≡◌, ◌≤◌, ◌++◌, map, take, drop}
 use Rattle.boards.specs.Lists.{on_board}
 use Rattle.board_state.specs.Views.{timing_of}
 use Rattle.board.proofs.loads.gather.Given as goal

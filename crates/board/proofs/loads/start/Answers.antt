@@ -1,8 +1,7 @@
-use Rattle.std.proofs.Common.{◌≡◌, ℕ, ◌-◌, ◌<◌, ◌≤◌, true, List, map, length, get_or, take, sym, refl, ap, ◌∙◌, subst, ap₂, arith, length-take}
+use Rattle.std.proofs.Common.{◌≡◌, ℕ, ◌-◌, ◌<◌, ◌≤◌, true, List, map, length, get_or, take, sym, ap, ◌∙◌, subst, ap₂, arith, length-take}
 use Rattle.std.proofs.lemmas.List.{take-map, take_all}
 use Rattle.duty.specs.declared.duties.Duty.{Duty}
 use Rattle.duty.specs.declared.records.Record.{Record}
-use Rattle.duty.specs.declared.timings.Timing.{Timing}
 use Rattle.duty.specs.Heads.{Head}
 use Rattle.duty.specs.Records.{duty_record}
 use Rattle.boards.specs.Lists.{on_board, no_record}

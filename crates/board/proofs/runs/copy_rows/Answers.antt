@@ -1,4 +1,4 @@
-use Rattle.std.proofs.Common.{◌≡◌, ℕ, ◌-◌, List, length, take, ap, ◌∙◌, arith, length-take}
+use Rattle.std.proofs.Common.{◌≡◌, ℕ, ◌-◌, length, take, ap, ◌∙◌, arith, length-take}
 use Rattle.std.proofs.lemmas.List.{take_at}
 use Rattle.board.proofs.Copying.{take_least}
 use Rattle.board.proofs.runs.copy_rows.Goals as goal

@@ -1,4 +1,4 @@
-use Rattle.std.proofs.Common.{◌≡◌, sym, refl, ap, ◌∙◌, subst}
+use Rattle.std.proofs.Common.{sym, refl, ap, ◌∙◌, subst}
 use Rattle.gauge.proofs.Shortage.{refused_lists_leave_a_job_short}
 use Rattle.model.specs.Boards.{Board}
 use Rattle.model.specs.Promises.{Promises}

@@ -1,12 +1,10 @@
-use Rattle.std.proofs.Common.{◌≡◌, ℕ, List, take, sym, ap, ◌∙◌, ap₂, subst₂}
-use Rattle.fault.specs.Faults.{then}
+use Rattle.std.proofs.Common.{◌≡◌, List, sym, ap, ◌∙◌, ap₂, subst₂}
 use Rattle.fault.proofs.Steps.{then_ok}
 use Rattle.duty.specs.declared.records.Record.{Record}
 use Rattle.duty.specs.Heads.{Head, head}
-use Rattle.boards.specs.Lists.{on_board}
 use Rattle.plans.specs.Closing.{close_fault}
 use Rattle.plans.specs.Laws.{Closable}
-use Rattle.board.specs.Loads.{list_of, load_fault}
+use Rattle.board.specs.Loads.{load_fault}
 use Rattle.board.specs.Runs.{listed}
 use Rattle.board.proofs.Playing.{same_run, unrefused, in_plan}
 use Rattle.board.proofs.runs.run_rows.Goals as goal

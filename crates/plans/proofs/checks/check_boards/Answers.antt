@@ -1,4 +1,4 @@
-use Rattle.std.proofs.Common.{◌≡◌, ℕ, ◌+◌, ◌-◌, ◌<◌, sym, ap, ◌∙◌, arith}
+use Rattle.std.proofs.Common.{◌≡◌, ◌+◌, ◌-◌, sym, ap, ◌∙◌, arith}
 use Rattle.plans.specs.Closing.{overfull_fault}
 use Rattle.plans.proofs.Overfilling.{overfull_next, overfull_here}
 use Rattle.plans.proofs.checks.check_boards.Goals as goal

@@ -1,4 +1,4 @@
-use Rattle.std.proofs.Common.{Some, None, decimal, sym, MatchOption}
+use Rattle.std.proofs.Common.{Some, None, decimal, sym}
 use Rattle.std.proofs.lemmas.Slice.Eq.{strip_prefix_is}
 use Rattle.trials.proofs.Numbers.{number_behind}
 use Rattle.trials.proofs.commands.number_after.Goals as goal

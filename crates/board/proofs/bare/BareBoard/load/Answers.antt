@@ -1,4 +1,4 @@
-use Rattle.std.proofs.Common.{◌≡◌, ℕ, ◌≤◌, length, take, sym, ap, ◌∙◌, subst, arith}
+use Rattle.std.proofs.Common.{take, sym, ap, ◌∙◌, subst}
 use Rattle.queue.specs.Places.{places as width}
 use Rattle.model.specs.Boards.{Board, dues}
 use Rattle.model.specs.Promises.{Promises}

@@ -1,4 +1,3 @@
-use Rattle.std.proofs.Common.{rules}
 use Rattle.plans.proofs.Deciding.{decides}
 use Rattle.plans.proofs.open.OpenPlan.check.Goals as goal
 

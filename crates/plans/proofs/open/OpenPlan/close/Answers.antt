@@ -1,4 +1,4 @@
-use Rattle.std.proofs.Common.{refl, rules}
+use Rattle.std.proofs.Common.{refl}
 use Rattle.duty.specs.Heads.{head}
 use Rattle.plans.proofs.Deciding.{only, kept}
 use Rattle.plans.proofs.open.OpenPlan.close.Goals as goal
