@@ -1,4 +1,6 @@
 // One binary heap in lent memory, generic over entries that are totally ordered.
+#![tactic(auto)]
+
 mod binary;
 mod entry;
 mod sift;
