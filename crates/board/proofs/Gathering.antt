@@ -1,7 +1,7 @@
 -- A board's duties, gathered from the records of a plan.
 use Rattle.std.proofs.Common.{◌≡◌, ℕ, suc, ◌+◌, ◌<◌, ◌≤◌, true, eqb, leb, List, [], ◌∷◌, ◌++◌, map, length, get_or, take, drop, set, Some, None, Err, Option, sym, refl, ap, ◌∙◌, subst, ⊎_elim, append-nil, arith, length-take}
 use lib.ListN.{length-map}
-use Rattle.std.specs.List.{AllByRecursion as All}
+use Rattle.std.specs.List.{AllByRecursion}
 use Rattle.std.proofs.ByRecursion.{All-from_get_or}
 use Rattle.std.proofs.lemmas.List.{at_drop_all, map-set, get_or-take}
 use Rattle.std.proofs.lemmas.Bool.{cond-true, cond-false, cond_both, cases_lt, and_parts, and_from, ne_eqb, le-leb}
@@ -46,16 +46,16 @@ gathered rs b i end front inv =
     sym (append-nil front) ∙ ap (λ (r : List Timing). front ++ r) (sym (at_drop_all (on_board b) rs i end)) ∙ inv
 
 -- what holds of the timing of each record holds of each duty of a board
-all_on_board : (P : Timing → Type 0) (b : ℕ) (rs : List Record) → All (λ r. P r.timing) rs → All P (on_board b rs)
+all_on_board : (P : Timing → Type 0) (b : ℕ) (rs : List Record) → AllByRecursion (λ r. P r.timing) rs → AllByRecursion P (on_board b rs)
 all_on_board P b [] a = tt
 all_on_board P b (r ∷ rs) a =
-    cond_both (eqb r.board b) (r.timing ∷ on_board b rs) (on_board b rs) (All P) (λ t. (a.0, all_on_board P b rs a.1)) (λ t. all_on_board P b rs a.1)
+    cond_both (eqb r.board b) (r.timing ∷ on_board b rs) (on_board b rs) (AllByRecursion P) (λ t. (a.0, all_on_board P b rs a.1)) (λ t. all_on_board P b rs a.1)
 
 record_timed : (r : Record) → duty_record r ≡ true → Timed r.timing
 record_timed r h = timed r.timing (and_parts (timely r.timing) (leb r.board most_boards) (and_parts (named r.name.bytes) _ h).1).0
 
 -- the duties of a board are duties
-pub all_timed_on : (b : ℕ) (rs : List Record) → ((k : ℕ) → k < length rs → duty_record (get_or rs k no_record) ≡ true) → All Timed (on_board b rs)
+pub all_timed_on : (b : ℕ) (rs : List Record) → ((k : ℕ) → k < length rs → duty_record (get_or rs k no_record) ≡ true) → AllByRecursion Timed (on_board b rs)
 all_timed_on b rs h =
     all_on_board Timed b rs (All-from_get_or (λ r. Timed r.timing) rs no_record (λ k l. record_timed (get_or rs k no_record) (h k l)))
 

@@ -1,6 +1,6 @@
 -- A whole text is read just where it is the one text of a table or plan within all limits.
 use Rattle.std.proofs.Common.{◌≡◌, ℕ, zero, suc, ◌+◌, ◌*◌, ◌≤◌, ltb, List, [], ◌∷◌, ◌++◌, length, drop, Ok, sym, refl, ap, ◌∙◌, subst, mul-suc, arith, length-append}
-use Rattle.std.specs.List.{flat_map, AllByRecursion as All}
+use Rattle.std.specs.List.{flat_map, AllByRecursion}
 use Rattle.std.proofs.lemmas.List.{nil_from_length, drop_at, take-append-drop}
 use Rattle.std.proofs.lemmas.Bool.{cond-false, ltb-false, le-ltb}
 use Rattle.fault.proofs.Steps.{then_ok, then_back, passed_unless}
@@ -17,7 +17,7 @@ use Rattle.columns.proofs.LineTrips.{header_only, header_back, length_header, du
 record LinesTold (form : Form) (n cycle : ℕ) (bs : List ℕ) (xs : List Record) : Type 0 where
   written : bs ≡ flat_map (line_text form) xs
   count : length xs ≡ n
-  good : All (Writable form cycle) xs
+  good : AllByRecursion (Writable form cycle) xs
 
 lines_only : (form : Form) (n cycle place line : ℕ) (bs : List ℕ) (xs : List Record) → records_of form n cycle place line bs ≡ Ok xs → LinesTold form n cycle bs xs
 lines_only form zero cycle place line bs xs e =
@@ -39,7 +39,7 @@ lines_only form (suc n) cycle place line bs xs e =
       good = (one.good, more.good);
     })))
 
-lines_back : (form : Form) (cycle place line : ℕ) (xs : List Record) → All (Writable form cycle) xs → records_of form (length xs) cycle place line (flat_map (line_text form) xs) ≡ Ok xs
+lines_back : (form : Form) (cycle place line : ℕ) (xs : List Record) → AllByRecursion (Writable form cycle) xs → records_of form (length xs) cycle place line (flat_map (line_text form) xs) ≡ Ok xs
 lines_back form cycle place line [] g = refl
 lines_back form cycle place line (x ∷ xs) g =
     let w = line_width form + 1 in
@@ -49,7 +49,7 @@ lines_back form cycle place line (x ∷ xs) g =
     ∙ then_ok _ (ap (records_of form (length xs) cycle (place + w) (line + 1)) past ∙ lines_back form cycle (place + w) (line + 1) xs g.1)
 
 -- how long the lines of records are
-pub length_lines : (form : Form) (cycle : ℕ) (xs : List Record) → All (Writable form cycle) xs → length (flat_map (line_text form) xs) ≡ (line_width form + 1) * length xs
+pub length_lines : (form : Form) (cycle : ℕ) (xs : List Record) → AllByRecursion (Writable form cycle) xs → length (flat_map (line_text form) xs) ≡ (line_width form + 1) * length xs
 length_lines form cycle [] g = omega arith
 length_lines form cycle (x ∷ xs) g =
     length-append (line_text form x) (flat_map (line_text form) xs)

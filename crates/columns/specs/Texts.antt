@@ -1,6 +1,6 @@
 -- The one text of a table or plan.
 use Rattle.std.specs.Prelude.{◌≡◌, ℕ, ◌+◌, ◌*◌, true, List, [], ◌∷◌, ◌++◌, length}
-use Rattle.std.specs.List.{flat_map, AllByRecursion as All}
+use Rattle.std.specs.List.{flat_map, AllByRecursion}
 use Rattle.duty.specs.declared.records.Record.{Record}
 use Rattle.duty.specs.Heads.{Head, head_limits}
 use Rattle.duty.specs.Letters.{letter_byte}
@@ -56,4 +56,4 @@ pub record Writable (form : Form) (cycle : ℕ) (r : Record) : Type 0 where
 pub record Valid (form : Form) (t : Sheet) : Type 0 where
   pub limits : head_limits t.head ≡ true
   pub count : length t.rows ≡ t.head.duties
-  pub rows : All (Writable form t.head.cycle) t.rows
+  pub rows : AllByRecursion (Writable form t.head.cycle) t.rows

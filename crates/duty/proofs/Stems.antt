@@ -1,7 +1,7 @@
 -- The columns hold a name just where they hold a stem and then blanks.
 use Rattle.std.proofs.Common.{◌≡◌, ℕ, zero, suc, ◌+◌, ◌≤◌, true, eqb, List, [], ◌∷◌, ◌++◌, length, replicate, refl, ap, ◌∙◌, ⊎_elim, arith, length-append}
 use lib.ListN.{length-replicate}
-use Rattle.std.specs.List.{AllByRecursion as All}
+use Rattle.std.specs.List.{AllByRecursion}
 use Rattle.std.proofs.lemmas.Bool.{cases_Bool, cond-true, cond-false, eqb-true, eq-eqb}
 use Rattle.duty.specs.Names.{name_byte, tail_byte, blanks_in, tail_in, name_in, Stem, NamesAreStems}
 
@@ -14,7 +14,7 @@ tail_run : (k : ℕ) → tail_in (replicate k 32) ≡ k
 tail_run zero = refl
 tail_run (suc k) = blanks_run (suc k)
 
-tail_stem : (others : List ℕ) (k : ℕ) → All (λ b. tail_byte b ≡ true) others → tail_in (others ++ replicate k 32) ≡ length others + k
+tail_stem : (others : List ℕ) (k : ℕ) → AllByRecursion (λ b. tail_byte b ≡ true) others → tail_in (others ++ replicate k 32) ≡ length others + k
 tail_stem [] k h = tail_run k ∙ omega arith
 tail_stem (b ∷ bs) k h =
     let s = cond-true (tail_byte b) (suc (tail_in (bs ++ replicate k 32))) (blanks_in ((b ∷ bs) ++ replicate k 32)) h.0 in
@@ -37,7 +37,7 @@ blanks_whole (b ∷ bs) h =
 record Tail (bs : List ℕ) : Type 0 where
   others : List ℕ
   blanks : ℕ
-  goes_on : All (λ b. tail_byte b ≡ true) others
+  goes_on : AllByRecursion (λ b. tail_byte b ≡ true) others
   whole : bs ≡ others ++ replicate blanks 32
 
 tail_whole : (bs : List ℕ) → length bs ≤ tail_in bs → Tail bs

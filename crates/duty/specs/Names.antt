@@ -1,6 +1,6 @@
 -- Which bytes may stand in a name's columns.
 use Rattle.std.specs.Prelude.{◌≡◌, ℕ, suc, Bool, true, cond, ◌&&◌, ◌||◌, List, [], ◌∷◌, ◌++◌, length, replicate, ◌==◌, nat_le}
-use Rattle.std.specs.List.{AllByRecursion as All}
+use Rattle.std.specs.List.{AllByRecursion}
 use Rattle.duty.specs.Limits.{name_width}
 
 -- A to Z or a digit
@@ -36,7 +36,7 @@ pub record Stem (bs : List ℕ) : Type 0 where
   pub others : List ℕ
   pub blanks : ℕ
   pub starts : name_byte first ≡ true
-  pub goes_on : All (λ b. tail_byte b ≡ true) others
+  pub goes_on : AllByRecursion (λ b. tail_byte b ≡ true) others
   pub whole : bs ≡ first ∷ (others ++ replicate blanks 32)
 
 -- the columns hold a name just where they hold such a stem

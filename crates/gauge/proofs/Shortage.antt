@@ -1,6 +1,6 @@
 -- Where the demand up to t is more than t, the t ticks before t cannot serve every job that is due by t.
 use Rattle.std.proofs.Common.{◌≡◌, ℕ, zero, suc, ◌+◌, ◌*◌, ◌<◌, ◌≤◌, ◌⊎◌, List, [], ◌∷◌, length, Some, sym, ap, ◌∙◌, inl, inr, ⊎_elim, add-zero, add-suc, suc-add, mul-zero, zero-add, mul-suc, arith}
-use Rattle.std.specs.List.{slice_get, AllByRecursion as All}
+use Rattle.std.specs.List.{slice_get, AllByRecursion}
 use Rattle.std.proofs.lemmas.Bool.{leb-false, cases_lt, and_cases, both_ways}
 use Rattle.duty.specs.declared.timings.Timing.{Timing}
 use Rattle.duty.specs.Demand.{demand, demands}
@@ -44,7 +44,7 @@ module _ (ds : List Timing) (t : ℕ) (way : Way) where
       (cases_lt t d.deadline)
 
   -- the duties from the place p on got their demands
-  served : (p : ℕ) (rest : List Timing) → ((j : ℕ) → slice_get ds (p + j) ≡ slice_get rest j) → All Timed rest → UnlessShort (demands rest t ≤ total (share_from p) way)
+  served : (p : ℕ) (rest : List Timing) → ((j : ℕ) → slice_get ds (p + j) ≡ slice_get rest j) → AllByRecursion Timed rest → UnlessShort (demands rest t ≤ total (share_from p) way)
   served p [] from w = inr (omega arith)
   served p (d ∷ rest) from w =
       ⊎_elim inl
@@ -55,7 +55,7 @@ module _ (ds : List Timing) (t : ℕ) (way : Way) where
       (duty_served p d (ap (slice_get ds) (sym (add-zero p)) ∙ from 0) w.0)
 
   -- all duties together cannot have got more than there is
-  overload : All Timed ds → t < demands ds t → length way ≡ t → Short ds t way
+  overload : AllByRecursion Timed ds → t < demands ds t → length way ≡ t → Short ds t way
   overload w over whole =
       ⊎_elim
       (λ short. short)

@@ -1,7 +1,7 @@
 -- The exact gauge: one cycle decides every instant, and the descending scan decides the cycle.
 use Rattle.std.specs.Prelude.{◌≡◌, ℕ, zero, suc, ◌+◌, ◌*◌, ◌/◌, ◌%◌, ◌<◌, ◌≤◌, true, false, List, [], ◌∷◌, refl}
 use Rattle.std.proofs.Common.{⊎_elim, sym, ap, subst, ◌∙◌, div-add-mod', mod-lt, suc-mul, zero-mul, arith}
-use Rattle.std.specs.List.{AllByRecursion as All}
+use Rattle.std.specs.List.{AllByRecursion}
 use Rattle.std.proofs.ByRecursion.{All-weaker}
 use Rattle.std.proofs.lemmas.Bool.{and_parts, and_from, leb-true, le-leb, lt-leb, cases_lt, cases_eq}
 use Rattle.duty.specs.declared.timings.Timing.{Timing}
@@ -18,7 +18,7 @@ use Rattle.gauge.specs.Demands.{demand_before, demand_spacings, demands_grow}
 demand_start : (cycle : ℕ) (d : Timing) → Fair cycle d → demand d 0 ≡ 0
 demand_start cycle d f = demand_before d 0 (omega (arith, f.is.positive, f.is.feasible))
 
-demands_start : (ds : List Timing) (cycle : ℕ) → All (Fair cycle) ds → demands ds 0 ≡ 0
+demands_start : (ds : List Timing) (cycle : ℕ) → AllByRecursion (Fair cycle) ds → demands ds 0 ≡ 0
 demands_start [] cycle h = refl
 demands_start (d ∷ ds) cycle h = omega (arith, demand_start cycle d h.0, demands_start ds cycle h.1)
 
@@ -33,7 +33,7 @@ demand_cycle cycle t d f =
     from_zero n m e = omega arith
 
 -- the demand up to t + cycle is the demand up to t and that up to the cycle
-pub demands_cycle : (ds : List Timing) (cycle t : ℕ) → All (Fair cycle) ds → demands ds (t + cycle) ≡ demands ds t + demands ds cycle
+pub demands_cycle : (ds : List Timing) (cycle t : ℕ) → AllByRecursion (Fair cycle) ds → demands ds (t + cycle) ≡ demands ds t + demands ds cycle
 demands_cycle ds cycle t h =
     total_same (λ d. demand d (t + cycle)) (λ d. demand d t + demand d cycle) ds (All-weaker (Fair cycle) (λ d. demand d (t + cycle) ≡ demand d t + demand d cycle) (demand_cycle cycle t) ds h)
     ∙ total_plus (λ d. demand d t) (λ d. demand d cycle) ds

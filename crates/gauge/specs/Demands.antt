@@ -2,7 +2,7 @@
 use Rattle.std.specs.Prelude.{◌≡◌, ℕ, zero, suc, ◌+◌, ◌-◌, ◌*◌, ◌/◌, ◌^◌, ◌<◌, ◌≤◌, true, List, [], ◌∷◌, length, nat_lt}
 use Rattle.std.proofs.Common.{⊎_elim, ap, ◌∙◌, mul-le-mul, mul-le-mul_left, mul-le-mul_right, mul_comm, mul_assoc, add-mul, one-mul, zero-mul, mul-zero, mul-suc, suc-mul, div-mul-le_self, le-div_iff_mul-le, le_trans, le_of_mul-le-mul_right, arith}
 use Rattle.std.proofs.Math.Nat.{div-eq_of_lt, add-div_right, div-zero}
-use Rattle.std.specs.List.{AllByRecursion as All}
+use Rattle.std.specs.List.{AllByRecursion}
 use Rattle.std.proofs.ByRecursion.{All-weaker}
 use Rattle.std.proofs.lemmas.Bool.{cond-true, cond-false, lt-ltb, le-ltb, cases_lt}
 use Rattle.duty.specs.declared.timings.Timing.{Timing}
@@ -109,7 +109,7 @@ demand_spacings d w (suc k) t =
 pub demands_grow : (ds : List Timing) (s t : ℕ) → s ≤ t → demands ds s ≤ demands ds t
 demands_grow ds s t le = total_le (λ d. demand d s) (λ d. demand d t) ds (every ds)
   where
-    every : (ds : List Timing) → All (λ d. demand d s ≤ demand d t) ds
+    every : (ds : List Timing) → AllByRecursion (λ d. demand d s ≤ demand d t) ds
     every [] = tt
     every (d ∷ ds) = (demand_grows d s t le, every ds)
 

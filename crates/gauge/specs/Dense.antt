@@ -2,7 +2,7 @@
 use Rattle.std.specs.Prelude.{◌≡◌, ℕ, ◌+◌, ◌-◌, ◌*◌, ◌/◌, ◌<◌, ◌≤◌, true, List, length, nat_le}
 use Rattle.std.proofs.Common.{ap, mul_comm, mul_assoc, mul-le-mul_right, le_of_mul-le-mul_right, div-lt_iff_lt-mul, add-mul, one-mul, arith}
 use Rattle.std.proofs.Math.Nat.{lt-div-mul-add}
-use Rattle.std.specs.List.{AllByRecursion as All}
+use Rattle.std.specs.List.{AllByRecursion}
 use Rattle.std.proofs.ByRecursion.{All-weaker}
 use Rattle.std.proofs.lemmas.Bool.{and_parts, leb-true}
 use Rattle.duty.specs.declared.timings.Timing.{Timing}
@@ -34,7 +34,7 @@ density_most d k =
     let a : d.cost * whole ≤ d.deadline * whole = mul-le-mul_right whole k.feasible in
     rounded_least (d.cost * whole) d.deadline whole (omega (arith, k.positive, k.feasible)) (omega (arith, mul_comm d.deadline whole))
 
-pub densities_most : (ds : List Timing) → All Timed ds → total density ds ≤ length ds * whole
+pub densities_most : (ds : List Timing) → AllByRecursion Timed ds → total density ds ≤ length ds * whole
 densities_most ds h = total_most density whole ds (All-weaker Timed (λ d. density d ≤ whole) density_most ds h)
 
 -- n × deadline ≤ cost × t, and cost ÷ deadline is at most m ÷ w: so n is at most m × t ÷ w

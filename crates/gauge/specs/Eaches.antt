@@ -1,13 +1,13 @@
 -- Tests of each element of a list and of each number up to one, and the steps of a loop that makes one.
 use Rattle.std.specs.Prelude.{◌≡◌, ℕ, zero, suc, ◌+◌, ◌<◌, ◌≤◌, Bool, true, false, ◌&&◌, List, [], ◌∷◌, map, length, drop, slice_index_or, refl}
 use Rattle.std.proofs.Common.{⊎_elim, sym, ap, ◌∙◌, arith}
-use Rattle.std.specs.List.{AllByRecursion as All}
+use Rattle.std.specs.List.{AllByRecursion}
 use Rattle.std.proofs.lemmas.List.{at_drop_more, at_drop_all}
 use Rattle.std.proofs.lemmas.Bool.{true≢false, and_parts, and_from, and_left, and_cases, both_ways, cases_Bool, cases_eq}
 use Rattle.gauge.specs.Each.{each, each_to}
 
 module _ {A : Type 0} (p : A → Bool) where
-  pub all_from_each : (xs : List A) → each p xs ≡ true → All (λ x. p x ≡ true) xs
+  pub all_from_each : (xs : List A) → each p xs ≡ true → AllByRecursion (λ x. p x ≡ true) xs
   all_from_each [] e = tt
   all_from_each (x ∷ xs) e = let b = and_parts (p x) (each p xs) e in (b.0, all_from_each xs b.1)
 

@@ -1,7 +1,7 @@
 -- What a fair list keeps, as orders of numbers.
 use Rattle.std.specs.Prelude.{◌≡◌, ℕ, ◌*◌, ◌/◌, ◌%◌, ◌<◌, ◌≤◌, true, List, length, get_or, ◌==◌, nat_le, slice_index_or}
 use Rattle.std.proofs.Common.{div-add-mod', arith}
-use Rattle.std.specs.List.{AllByRecursion as All}
+use Rattle.std.specs.List.{AllByRecursion}
 use Rattle.std.proofs.ByRecursion.{All-weaker, All-get_or}
 use Rattle.std.proofs.lemmas.Bool.{and_parts, leb-true, eqb-true}
 use Rattle.duty.specs.declared.timings.Timing.{Timing}
@@ -46,7 +46,7 @@ pub record FairList (ds : List Timing) (cycle : ℕ) : Type 0 where
   pub some : 1 ≤ cycle
   pub short : cycle ≤ longest
   pub each_timely : each timely ds ≡ true
-  pub each_fair : All (Fair cycle) ds
+  pub each_fair : AllByRecursion (Fair cycle) ds
 
 pub fair_list : (ds : List Timing) (cycle : ℕ) → fair ds cycle ≡ true → FairList ds cycle
 fair_list ds cycle e =
@@ -61,7 +61,7 @@ fair_list ds cycle e =
       each_fair = All-weaker (λ d. fair_timing cycle d ≡ true) (Fair cycle) (fair_parts cycle) ds (all_from_each (fair_timing cycle) ds a.1);
     }
 
-pub all_timed : (ds : List Timing) → each timely ds ≡ true → All Timed ds
+pub all_timed : (ds : List Timing) → each timely ds ≡ true → AllByRecursion Timed ds
 all_timed ds e = All-weaker (λ d. timely d ≡ true) Timed timed ds (all_from_each timely ds e)
 
 -- one duty of a list of duties

@@ -1,7 +1,7 @@
 -- The slope gauge keeps the law: the lines are above the demand, and stay below the time.
 use Rattle.std.specs.Prelude.{◌≡◌, ℕ, zero, suc, ◌+◌, ◌-◌, ◌*◌, ◌/◌, ◌^◌, ◌<◌, ◌≤◌, true, ◌⊎◌, List, [], ◌∷◌, length, ◌≢◌, nat_lt}
 use Rattle.std.proofs.Common.{inl, inr, ⊎_elim, sym, ap, ◌∙◌, mul-le-mul, mul-le-mul_left, mul-le-mul_right, mul_comm, mul_assoc, mul-add, mul-suc, mul-zero, add-mul, zero-mul, suc-mul, div-mul-le_self, le_of_mul-le-mul_right, arith}
-use Rattle.std.specs.List.{AllByRecursion as All}
+use Rattle.std.specs.List.{AllByRecursion}
 use Rattle.std.proofs.ByRecursion.{All-weaker}
 use Rattle.std.proofs.lemmas.Bool.{and_parts, leb-true, cond-true, cond-false, lt-ltb, le-ltb, cases_lt, cases_eq}
 use Rattle.duty.specs.declared.timings.Timing.{Timing}
@@ -95,22 +95,22 @@ module _ (cycle : ℕ) (d : Timing) where
 
 -- The lines of a list.
 module _ (ds : List Timing) (cycle : ℕ) where
-  slopes_above : All (Fair cycle) ds → (t : ℕ) → demands ds t * cycle ≤ slope_sum ds cycle t
+  slopes_above : AllByRecursion (Fair cycle) ds → (t : ℕ) → demands ds t * cycle ≤ slope_sum ds cycle t
   slopes_above h t =
       let each = All-weaker (Fair cycle) (λ d. demand d t * cycle ≤ slope_at cycle t d) (λ d f. slope_above cycle d f t) ds h in
       omega (arith, total_le (λ d. demand d t * cycle) (slope_at cycle t) ds each, total_times (λ d. demand d t) cycle ds)
 
-  slopes_steep : (t : ℕ) → All (λ d. Fair cycle d × (d.deadline ≤ t)) ds → total (rate cycle) ds * t ≤ slope_sum ds cycle t
+  slopes_steep : (t : ℕ) → AllByRecursion (λ d. Fair cycle d × (d.deadline ≤ t)) ds → total (rate cycle) ds * t ≤ slope_sum ds cycle t
   slopes_steep t h =
       let each = All-weaker (λ d. Fair cycle d × (d.deadline ≤ t)) (λ d. rate cycle d * t ≤ slope_at cycle t d) (λ d k. slope_steep cycle d k.0 t k.1) ds h in
       omega (arith, total_le (λ d. rate cycle d * t) (slope_at cycle t) ds each, total_times (rate cycle) t ds)
 
-  slopes_tick : (t : ℕ) → All (λ d. Fair cycle d × (d.deadline ≢ suc t)) ds → slope_sum ds cycle (suc t) ≤ slope_sum ds cycle t + total (rate cycle) ds
+  slopes_tick : (t : ℕ) → AllByRecursion (λ d. Fair cycle d × (d.deadline ≢ suc t)) ds → slope_sum ds cycle (suc t) ≤ slope_sum ds cycle t + total (rate cycle) ds
   slopes_tick t h =
       let each = All-weaker (λ d. Fair cycle d × (d.deadline ≢ suc t)) (λ d. slope_at cycle (suc t) d ≤ slope_at cycle t d + rate cycle d) (λ d k. slope_tick cycle d k.0 t k.1) ds h in
       omega (arith, total_le (slope_at cycle (suc t)) (λ d. slope_at cycle t d + rate cycle d) ds each, total_plus (slope_at cycle t) (rate cycle) ds)
 
-  slopes_start : All (Fair cycle) ds → slope_sum ds cycle 0 ≤ 0
+  slopes_start : AllByRecursion (Fair cycle) ds → slope_sum ds cycle 0 ≤ 0
   slopes_start h =
       let each = All-weaker (Fair cycle) (λ d. slope_at cycle 0 d ≤ 0) (λ d f. omega (arith, slope_start cycle d f)) ds h in
       omega (arith, total_most (slope_at cycle 0) 0 ds each, mul-zero (length ds))
@@ -125,13 +125,13 @@ module _ (ds : List Timing) (cycle : ℕ) where
 -- The last deadline of a list, or 0: what holds of 0 and of each deadline holds of it.
 record Last (ds : List Timing) (P : ℕ → Type 0) : Type 0 where
   instant : ℕ
-  past : All (λ d. d.deadline ≤ instant) ds
+  past : AllByRecursion (λ d. d.deadline ≤ instant) ds
   holds : P instant
 
-later : (ds : List Timing) (s t : ℕ) → s ≤ t → All (λ d. d.deadline ≤ s) ds → All (λ d. d.deadline ≤ t) ds
+later : (ds : List Timing) (s t : ℕ) → s ≤ t → AllByRecursion (λ d. d.deadline ≤ s) ds → AllByRecursion (λ d. d.deadline ≤ t) ds
 later ds s t le = All-weaker (λ d. d.deadline ≤ s) (λ d. d.deadline ≤ t) (λ d h. omega arith) ds
 
-last_deadline : (ds : List Timing) (P : ℕ → Type 0) → P 0 → All (λ d. P d.deadline) ds → Last ds P
+last_deadline : (ds : List Timing) (P : ℕ → Type 0) → P 0 → AllByRecursion (λ d. P d.deadline) ds → Last ds P
 last_deadline [] P z h = record { instant = 0; past = tt; holds = z }
 last_deadline (d ∷ ds) P z h =
     let l = last_deadline ds P z h.1 in
@@ -143,7 +143,7 @@ last_deadline (d ∷ ds) P z h =
 -- what slope's passing says, as orders of numbers
 record Passed (ds : List Timing) (cycle : ℕ) : Type 0 where
   is_fair : FairList ds cycle
-  below : All (λ d. slope_sum ds cycle d.deadline ≤ d.deadline * cycle) ds
+  below : AllByRecursion (λ d. slope_sum ds cycle d.deadline ≤ d.deadline * cycle) ds
 
 passed : (ds : List Timing) (cycle : ℕ) → slope_passed ds cycle ≡ true → Passed ds cycle
 passed ds cycle e =
@@ -153,7 +153,7 @@ passed ds cycle e =
       below = All-weaker (λ d. below_at ds cycle d.deadline ≡ true) (λ d. slope_sum ds cycle d.deadline ≤ d.deadline * cycle) (λ d. leb-true _ _) ds (all_from_each (λ d. below_at ds cycle d.deadline) ds a.1);
     }
 
-both : (P Q : Timing → Type 0) (ds : List Timing) → All P ds → All Q ds → All (λ d. P d × Q d) ds
+both : (P Q : Timing → Type 0) (ds : List Timing) → AllByRecursion P ds → AllByRecursion Q ds → AllByRecursion (λ d. P d × Q d) ds
 both P Q [] h k = tt
 both P Q (d ∷ ds) h k = ((h.0, k.0), both P Q ds h.1 k.1)
 
@@ -164,7 +164,7 @@ rates_bounded ds cycle e =
     let l = last_deadline ds (λ t. slope_sum ds cycle t ≤ t * cycle) (omega (arith, slopes_start ds cycle p.is_fair.each_fair)) p.below in
     at_last p l.instant l.past l.holds
   where
-    at_last : Passed ds cycle → (t : ℕ) → All (λ d. d.deadline ≤ t) ds → slope_sum ds cycle t ≤ t * cycle → total (rate cycle) ds ≤ cycle
+    at_last : Passed ds cycle → (t : ℕ) → AllByRecursion (λ d. d.deadline ≤ t) ds → slope_sum ds cycle t ≤ t * cycle → total (rate cycle) ds ≤ cycle
     at_last p zero past under =
         let none = All-weaker (λ d. Fair cycle d × (d.deadline ≤ 0)) (λ d. rate cycle d ≤ 0) (λ d k. absurd (omega (arith, k.0.is.positive, k.0.is.feasible, k.1))) ds (both (Fair cycle) (λ d. d.deadline ≤ 0) ds p.is_fair.each_fair past) in
         omega (arith, total_most (rate cycle) 0 ds none, mul-zero (length ds))
@@ -173,7 +173,7 @@ rates_bounded ds cycle e =
         le_of_mul-le-mul_right {m = total (rate cycle) ds} {n = cycle} {k = suc t} (omega (arith, steep, mul_comm cycle (suc t))) (omega arith)
 
 -- t is a deadline of the list, where P holds, or it is none
-at_deadline : (ds : List Timing) (P : ℕ → Type 0) (t : ℕ) → All (λ d. P d.deadline) ds → P t ⊎ All (λ d. d.deadline ≢ t) ds
+at_deadline : (ds : List Timing) (P : ℕ → Type 0) (t : ℕ) → AllByRecursion (λ d. P d.deadline) ds → P t ⊎ AllByRecursion (λ d. d.deadline ≢ t) ds
 at_deadline [] P t h = inr tt
 at_deadline (d ∷ ds) P t h =
     ⊎_elim

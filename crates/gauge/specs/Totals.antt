@@ -1,16 +1,16 @@
 -- Sums over a list, and the steps of a loop that adds one up.
 use Rattle.std.specs.Prelude.{◌≡◌, ℕ, ◌+◌, ◌*◌, ◌<◌, ◌≤◌, List, [], ◌∷◌, map, length, drop, slice_index_or, refl}
 use Rattle.std.proofs.Common.{add-mul, zero-mul, suc-mul, arith}
-use Rattle.std.specs.List.{AllByRecursion as All}
+use Rattle.std.specs.List.{AllByRecursion}
 use Rattle.std.proofs.lemmas.List.{at_drop_more, at_drop_all}
 use Rattle.duty.specs.Sums.{total}
 
 module _ {A : Type 0} (f : A → ℕ) where
-  pub total_le : (g : A → ℕ) (xs : List A) → All (λ x. f x ≤ g x) xs → total f xs ≤ total g xs
+  pub total_le : (g : A → ℕ) (xs : List A) → AllByRecursion (λ x. f x ≤ g x) xs → total f xs ≤ total g xs
   total_le g [] h = omega arith
   total_le g (x ∷ xs) h = omega (arith, h.0, total_le g xs h.1)
 
-  pub total_same : (g : A → ℕ) (xs : List A) → All (λ x. f x ≡ g x) xs → total f xs ≡ total g xs
+  pub total_same : (g : A → ℕ) (xs : List A) → AllByRecursion (λ x. f x ≡ g x) xs → total f xs ≡ total g xs
   total_same g [] h = refl
   total_same g (x ∷ xs) h = omega (arith, h.0, total_same g xs h.1)
 
@@ -22,7 +22,7 @@ module _ {A : Type 0} (f : A → ℕ) where
   total_times k [] = omega (arith, zero-mul k)
   total_times k (x ∷ xs) = omega (arith, add-mul (f x) (total f xs) k, total_times k xs)
 
-  pub total_most : (m : ℕ) (xs : List A) → All (λ x. f x ≤ m) xs → total f xs ≤ length xs * m
+  pub total_most : (m : ℕ) (xs : List A) → AllByRecursion (λ x. f x ≤ m) xs → total f xs ≤ length xs * m
   total_most m [] h = omega (arith, zero-mul m)
   total_most m (x ∷ xs) h = omega (arith, suc-mul (length xs) m, h.0, total_most m xs h.1)
 

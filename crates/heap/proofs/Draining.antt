@@ -1,6 +1,6 @@
 -- Entries that leave one after another: none yet, and one more.
 use Rattle.std.proofs.Common.{◌≡◌, ℕ, ◌+◌, ◌-◌, ◌<◌, ◌≤◌, Bool, true, List, [], ◌∷◌, ◌++◌, map, length, take, drop, set, Some, None, sym, refl, ap, ◌∙◌, subst, append_assoc, arith}
-use Rattle.std.specs.List.{slice_get, AllByRecursion as All}
+use Rattle.std.specs.List.{slice_get, AllByRecursion}
 use Rattle.std.specs.List.Sorted.{IsPermutation}
 use Rattle.std.proofs.ByRecursion.{All-push, All-weaker, all_shuffled}
 use Rattle.std.proofs.lemmas.List.{drop-drop, drop-set-lt, take_more_set, length-append, length-take-le, map-append}
@@ -31,7 +31,7 @@ drop_later xs ys m n le e =
 one_more : {X : Type 0} (gone rest : List X) (x : X) → gone ++ x ∷ rest ≡ (gone ++ x ∷ []) ++ rest
 one_more gone rest x = sym (append_assoc gone (x ∷ []) rest)
 
-ascending_push : {X : Type 0} (upto : X → X → Bool) (gone : List X) (x : X) → Ascending upto gone → All (λ y. upto y x ≡ true) gone → Ascending upto (gone ++ x ∷ [])
+ascending_push : {X : Type 0} (upto : X → X → Bool) (gone : List X) (x : X) → Ascending upto gone → AllByRecursion (λ y. upto y x ≡ true) gone → Ascending upto (gone ++ x ∷ [])
 ascending_push upto [] x up h = (tt, tt)
 ascending_push upto (y ∷ gone) x up h = (All-push (λ z. upto y z ≡ true) gone x up.0 h.0, ascending_push upto gone x up.1 h.1)
 

@@ -2,7 +2,7 @@
 use Rattle.std.proofs.Common.{◌≡◌, ℕ, ◌+◌, ◌<◌, Bool, true, false, cond, List, [], ◌∷◌, map, sum_by, sym, refl, ap, ◌∙◌, arith}
 use borrow.Author.Tests.{both_ways}
 use Rattle.std.specs.List.Sorted.{IsPermutation}
-use Rattle.std.specs.List.{AllByRecursion as All}
+use Rattle.std.specs.List.{AllByRecursion}
 use Rattle.std.proofs.ByRecursion.{All-weaker, all_shuffled}
 use Rattle.std.proofs.lemmas.List.Sorted.{sum_by-IsPermutation, IsPermutation-refl, IsPermutation-trans, IsPermutation-cons, IsPermutation-swap}
 use Rattle.std.proofs.lemmas.List.Sums.{sum_by-cons}
@@ -31,15 +31,15 @@ module _ {X : Type 0} (upto : X → X → Bool) where
   shuffled_sorted [] = IsPermutation-refl []
   shuffled_sorted (x ∷ l) = IsPermutation-trans _ _ _ (IsPermutation-cons x _ _ (shuffled_sorted l)) (shuffled_insert x (sorted upto l))
 
-  all_insert : (P : X → Type 0) (x : X) (l : List X) → P x → All P l → All P (insert upto x l)
+  all_insert : (P : X → Type 0) (x : X) (l : List X) → P x → AllByRecursion P l → AllByRecursion P (insert upto x l)
   all_insert P x [] p h = (p, tt)
   all_insert P x (y ∷ l) p h = by_test (upto x y) (all_insert P x l p h.1)
     where
-      by_test : (b : Bool) → All P (insert upto x l) → All P (cond b (x ∷ y ∷ l) (y ∷ insert upto x l))
+      by_test : (b : Bool) → AllByRecursion P (insert upto x l) → AllByRecursion P (cond b (x ∷ y ∷ l) (y ∷ insert upto x l))
       by_test true r = (p, h)
       by_test false r = (h.0, r)
 
-  all_sorted : (P : X → Type 0) (l : List X) → All P l → All P (sorted upto l)
+  all_sorted : (P : X → Type 0) (l : List X) → AllByRecursion P l → AllByRecursion P (sorted upto l)
   all_sorted P [] h = tt
   all_sorted P (x ∷ l) h = all_insert P x (sorted upto l) h.0 (all_sorted P l h.1)
 

@@ -1,6 +1,6 @@
 -- How entries leave a heap that is in heap order.
 use Rattle.std.specs.Prelude.{◌≡◌, Bool, List, ◌∷◌, ◌++◌, map, IfSome, Some, None, Option}
-use Rattle.std.specs.List.{AllByRecursion as All}
+use Rattle.std.specs.List.{AllByRecursion}
 use Rattle.heap.specs.Order.{Heaped, Least}
 use Rattle.heap.specs.Sorted.{Ascending, keys_in_order}
 
@@ -18,6 +18,6 @@ pub record Leaves {X K : Type 0} (key : X → K) (upto : X → X → Bool) (befo
 -- `gone` left one after another: in ascending order, each before all that stay, and with the first of the keys in order
 pub record InOrder {X K : Type 0} (key : X → K) (upto : X → X → Bool) (before gone after : List X) : Type 0 where
   pub ascending : Ascending upto gone
-  pub ahead : All (λ x. Least upto x after) gone
+  pub ahead : AllByRecursion (λ x. Least upto x after) gone
   pub heaped : Heaped upto after
   pub in_turn : keys_in_order key upto before ≡ map key gone ++ keys_in_order key upto after

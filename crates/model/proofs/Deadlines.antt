@@ -1,6 +1,6 @@
 -- What a job gets: never more than its units, and all of them by its deadline.
 use Rattle.std.proofs.Common.{◌≡◌, ℕ, ◌+◌, ◌-◌, ◌<◌, ◌≤◌, true, false, ltb, List, [], ◌∷◌, Some, None, Option, refl, ap, ◌∙◌, subst, ⊎_elim, arith}
-use Rattle.std.specs.List.{slice_get, AllByRecursion as All}
+use Rattle.std.specs.List.{slice_get, AllByRecursion}
 use Rattle.std.proofs.lemmas.Bool.{cond_both, cases_lt, ltb-true, ltb-false, lt-ltb, le-ltb, both_ways, eq-eqb}
 use Rattle.duty.specs.declared.timings.Timing.{Timing}
 use Rattle.duty.specs.Demand.{demands}
@@ -110,7 +110,7 @@ begun p c e x y h (works d u j q s t g) = absurd (both_ways (arrives p e) s h)
 begun p c e x y h (ends q s t g f) = absurd (both_ways (arrives p e) s h)
 begun p c e x y h (clears q s t g f l) = absurd (both_ways (arrives p e) s h)
 
-pub each_job : (ds : List Timing) → All Timed ds → ((t : ℕ) → demands ds t ≤ t) → (events : List Event) → Answered (loaded ds) events → EachJobHasItsCostByItsDeadline ds events
+pub each_job : (ds : List Timing) → AllByRecursion Timed ds → ((t : ℕ) → demands ds t ≤ t) → (events : List Event) → Answered (loaded ds) events → EachJobHasItsCostByItsDeadline ds events
 each_job ds timed bounded events answered before after p answer cut ok =
     let e : Event = record { call = arrive p; answer = answer } in
     let all = subst (Answered (loaded ds)) cut answered in

@@ -1,6 +1,6 @@
 -- What the first place of a board's deadlines says of the jobs.
 use Rattle.std.proofs.Common.{◌≡◌, ℕ, zero, suc, ◌≤◌, List, [], ◌∷◌, get_or, Some, None, Option, refl, subst, ⊎_elim, arith}
-use Rattle.std.specs.List.{slice_get, AllByRecursion as All}
+use Rattle.std.specs.List.{slice_get, AllByRecursion}
 use Rattle.queue.specs.First.{earliest, Foremost}
 use Rattle.queue.proofs.Foremosts.{foremost}
 use Rattle.model.specs.declared.jobs.Job.{Job}
@@ -20,15 +20,15 @@ pub record Leads (xs : List Place) (p : ℕ) : Type 0 where
   pub units : ℕ
   pub there : slice_get xs p ≡ Some place
   pub waits : place.job ≡ waiting deadline units
-  pub earliest_due : All (λ (x : Place). NoneBefore deadline (due x.job)) xs
+  pub earliest_due : AllByRecursion (λ (x : Place). NoneBefore deadline (due x.job)) xs
 
 -- what is said of the first place: no job waits, or it has the one that goes first
 abbrev pub Told : List Place → Option ℕ → Type 0
-Told xs None = All (λ (x : Place). due x.job ≡ None) xs
+Told xs None = AllByRecursion (λ (x : Place). due x.job ≡ None) xs
 Told xs (Some p) = Leads xs p
 
 -- what holds of each place's deadline holds of each job's
-all_dues : (P : Option ℕ → Type 0) (xs : List Place) → ((q : ℕ) → P (get_or (dues xs) q None)) → All (λ (x : Place). P (due x.job)) xs
+all_dues : (P : Option ℕ → Type 0) (xs : List Place) → ((q : ℕ) → P (get_or (dues xs) q None)) → AllByRecursion (λ (x : Place). P (due x.job)) xs
 all_dues P [] h = tt
 all_dues P (x ∷ xs) h = (h 0, all_dues P xs (λ q. h (suc q)))
 

@@ -1,7 +1,7 @@
 -- What every state of a board keeps: for each instant t ahead, the work that is due by then, with what may
 -- still arrive and be due by then, fits into the time that is left.
 use Rattle.std.proofs.Common.{◌≡◌, ℕ, ◌+◌, ◌-◌, ◌≤◌, max, cond, leb, Some, None, Option}
-use Rattle.std.specs.List.{AllByRecursion as All}
+use Rattle.std.specs.List.{AllByRecursion}
 use Rattle.duty.specs.declared.timings.Timing.{Timing}
 use Rattle.duty.specs.Demand.{demand}
 use Rattle.duty.specs.Sums.{total}
@@ -41,4 +41,4 @@ pub record Sound (c : ℕ) (x : Place) : Type 0 where
 pub record Kept (b : Board) : Type 0 where
   pub bounded : (t : ℕ) → total (λ (x : Place). demand x.duty t) b.places ≤ t
   pub fits : (t : ℕ) → b.clock ≤ t → total (load b.clock t) b.places ≤ t - b.clock
-  pub sound : All (Sound b.clock) b.places
+  pub sound : AllByRecursion (Sound b.clock) b.places

@@ -1,6 +1,6 @@
 -- A loaded board keeps the invariant, and so does every call.
 use Rattle.std.proofs.Common.{◌≡◌, ℕ, ◌+◌, ◌-◌, ◌<◌, ◌≤◌, max, false, cond, ltb, leb, List, map, set, Some, None, Option, sym, refl, ap, subst, ⊎_elim, le_trans, arith}
-use Rattle.std.specs.List.{slice_get, AllByRecursion as All}
+use Rattle.std.specs.List.{slice_get, AllByRecursion}
 use Rattle.std.proofs.ByRecursion.{All-set, All-map, All-weaker}
 use Rattle.std.proofs.lemmas.Bool.{cases_lt, cond_both, ltb-true, ltb-false, le-leb, lt-leb}
 use Rattle.duty.specs.declared.timings.Timing.{Timing}
@@ -161,16 +161,16 @@ module _ (b : Board) (k : Kept b) where
   }
 
   -- no work is due by t at any place: a tick later, what may arrive still fits
-  rests : (t : ℕ) → All (λ (x : Place). due_by t x.job ≡ 0) b.places → total (load (b.clock + 1) t) b.places ≤ t - (b.clock + 1)
+  rests : (t : ℕ) → AllByRecursion (λ (x : Place). due_by t x.job ≡ 0) b.places → total (load (b.clock + 1) t) b.places ≤ t - (b.clock + 1)
   rests t z =
       le_trans
       (total_le (load (b.clock + 1) t) (λ (x : Place). demand x.duty (t - (b.clock + 1))) b.places (All-weaker _ _ (λ x h. load_rest (b.clock + 1) t x h) b.places z))
       (k.bounded (t - (b.clock + 1)))
 
-  sound_next : All (Sound (b.clock + 1)) b.places
+  sound_next : AllByRecursion (Sound (b.clock + 1)) b.places
   sound_next = All-weaker _ _ (sound_later b.clock) b.places k.sound
 
-  kept_idle : All (λ (x : Place). due x.job ≡ None) b.places → Kept (record { clock = b.clock + 1; places = b.places })
+  kept_idle : AllByRecursion (λ (x : Place). due x.job ≡ None) b.places → Kept (record { clock = b.clock + 1; places = b.places })
   kept_idle idles = record {
     bounded = k.bounded;
     fits = λ t h. rests t (All-weaker _ _ (λ x. idle_not_due t x.job) b.places idles);
@@ -236,7 +236,7 @@ module _ (b : Board) (k : Kept b) where
   kept_step cancel = kept_cancel
 
 -- a fresh board with a list whose demand is bounded
-pub kept_loaded : (ds : List Timing) → All Timed ds → ((t : ℕ) → demands ds t ≤ t) → Kept (loaded ds)
+pub kept_loaded : (ds : List Timing) → AllByRecursion Timed ds → ((t : ℕ) → demands ds t ≤ t) → Kept (loaded ds)
 kept_loaded ds timed bounded = record {
   bounded = λ t. rw (total_map (λ (x : Place). demand x.duty t) fresh ds) (bounded t);
   fits = λ t _.

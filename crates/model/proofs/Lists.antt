@@ -1,6 +1,6 @@
 -- Elements by their place: found, replaced, mapped, summed.
 use Rattle.std.proofs.Common.{◌≡◌, ℕ, zero, suc, ◌+◌, ◌≤◌, List, [], ◌∷◌, map, set, Some, None, Option, sym, refl, ap, subst, ap₂, arith}
-use Rattle.std.specs.List.{slice_get, AllByRecursion as All}
+use Rattle.std.specs.List.{slice_get, AllByRecursion}
 use Rattle.duty.specs.Sums.{total}
 
 pub none_some : {A : Type 0} {x : A} → ◌≡◌ {A = Option A} None (Some x) → ⊥
@@ -23,12 +23,12 @@ module _ {A : Type 0} where
   nth_set_other (z ∷ xs) (suc i) (suc j) y h = nth_set_other xs i j y (λ e. h (ap suc e))
 
   -- what holds of each element holds of the one at a place
-  pub all_nth : (P : A → Type 0) (xs : List A) (i : ℕ) (x : A) → All P xs → slice_get xs i ≡ Some x → P x
+  pub all_nth : (P : A → Type 0) (xs : List A) (i : ℕ) (x : A) → AllByRecursion P xs → slice_get xs i ≡ Some x → P x
   all_nth P [] i x a h = absurd (none_some h)
   all_nth P (y ∷ xs) zero x a h = subst P (some_same h) a.0
   all_nth P (y ∷ xs) (suc i) x a h = all_nth P xs i x a.1 h
 
-  pub all_both : (P Q : A → Type 0) (xs : List A) → All P xs → All Q xs → All (λ x. P x × Q x) xs
+  pub all_both : (P Q : A → Type 0) (xs : List A) → AllByRecursion P xs → AllByRecursion Q xs → AllByRecursion (λ x. P x × Q x) xs
   all_both P Q [] p q = tt
   all_both P Q (x ∷ xs) p q = ((p.0, q.0), all_both P Q xs p.1 q.1)
 

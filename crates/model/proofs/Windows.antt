@@ -1,7 +1,7 @@
 -- How many ticks a duty can get in a window.
 use Rattle.std.proofs.Common.{◌≡◌, ℕ, ◌+◌, ◌-◌, ◌*◌, ◌/◌, ◌<◌, ◌≤◌, max, false, List, [], ◌∷◌, ◌++◌, Some, sym, refl, ap, ◌∙◌, subst, ⊎_elim, le_trans, mul-le-mul_left, le-div_iff_mul-le, div-mul-le_self, arith}
 use native.Mathlib.Nat.{div-eq_of_lt, div-eq-sub-div}
-use Rattle.std.specs.List.{slice_get, AllByRecursion as All}
+use Rattle.std.specs.List.{slice_get, AllByRecursion}
 use Rattle.std.proofs.lemmas.Bool.{cases_lt, both_ways}
 use Rattle.duty.specs.declared.timings.Timing.{Timing}
 use Rattle.duty.specs.Demand.{demands}
@@ -137,7 +137,7 @@ got_in_room b k p x n (e ∷ es) h u end en =
     (got_within b' p m.later m.there es h.1)
     (got_in_room b' (kept_step b k e.call) p m.later m.there es h.1 u.1 end en')
 
-pub windows : (ds : List Timing) → All Timed ds → ((t : ℕ) → demands ds t ≤ t) → (events : List Event) → Answered (loaded ds) events → TicksInAWindowAreBounded ds events
+pub windows : (ds : List Timing) → AllByRecursion Timed ds → ((t : ℕ) → demands ds t ≤ t) → (events : List Event) → Answered (loaded ds) events → TicksInAWindowAreBounded ds events
 windows ds timed bounded events answered before window after p d cut there quiet some_ticks =
     let all = subst (Answered (loaded ds)) cut answered in
     let b = reached (loaded ds) before in

@@ -1,6 +1,6 @@
 -- Counting a run by its calls and answers alone. An event is a call with its answer.
 use Rattle.std.specs.Prelude.{◌≡◌, ℕ, ◌+◌, Bool, true, false, cond, ◌&&◌, ◌||◌, List, [], ◌∷◌, Some, None, Option, ◌==◌}
-use Rattle.std.specs.List.{AllByRecursion as All}
+use Rattle.std.specs.List.{AllByRecursion}
 use Rattle.duty.specs.Sums.{total}
 use Rattle.model.specs.declared.calls.Call.{Call}
 use Rattle.model.specs.declared.calls.Call.TheVariants.{Arrive as arrive, Tick as tick, Finish as finish, GeneralCancel as cancel}
@@ -83,8 +83,8 @@ ends_job p e = (is_finish_at p e.call && accepted e.answer) || is_cancel e.call
 
 -- no job at p was ended by a call
 abbrev pub Undisturbed : ℕ → List Event → Type 0
-Undisturbed p es = All (λ (e : Event). ends_job p e ≡ false) es
+Undisturbed p es = AllByRecursion (λ (e : Event). ends_job p e ≡ false) es
 
 -- no General Cancel
 abbrev pub Uncancelled : List Event → Type 0
-Uncancelled es = All (λ (e : Event). is_cancel e.call ≡ false) es
+Uncancelled es = AllByRecursion (λ (e : Event). is_cancel e.call ≡ false) es

@@ -1,6 +1,6 @@
 -- Placing by first-fit keeps its law: duty by duty, from no duty on a board.
 use Rattle.std.proofs.Common.{◌≡◌, ℕ, ◌<◌, ◌≤◌, Bool, true, false, cond, eqb, ◌⊎◌, List, [], ◌∷◌, map, length, get_or, Some, None, Option, sym, refl, ap, ◌∙◌, subst, inl, inr, ⊎_elim, arith}
-use Rattle.std.specs.List.{AllByRecursion as All}
+use Rattle.std.specs.List.{AllByRecursion}
 use Rattle.std.proofs.lemmas.List.Sorted.{sum_by-IsPermutation}
 use Rattle.std.proofs.lemmas.Bool.{cases_eq, eq-eqb, ne_eqb}
 use Rattle.duty.specs.declared.records.Record.{Record}
@@ -109,7 +109,7 @@ module _ (passes : List Timing → ℕ → Bool) (boards cycle n : ℕ) where
       ∙ ap (λ (b : ℕ). placed passes boards cycle (seat rs i b) (map (λ x. x.index) es)) is))
       (goes rs e es w in' m low _ (rest (on rs e es w in' m low)))
 
-  good : (es : List Lined) (rs : List Record) → Waiting rs es → All (λ e. e.index < n) es → Good rs (map (λ x. x.index) es) (placed passes boards cycle rs (map (λ x. x.index) es))
+  good : (es : List Lined) (rs : List Record) → Waiting rs es → AllByRecursion (λ e. e.index < n) es → Good rs (map (λ x. x.index) es) (placed passes boards cycle rs (map (λ x. x.index) es))
   good [] rs w h = record {
     filling = done rs;
     duties = refl;

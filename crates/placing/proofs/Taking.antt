@@ -1,7 +1,7 @@
 -- The heap of records: how it is filled, and what each record off it does to the plan.
 use Rattle.std.proofs.Common.{◌≡◌, ℕ, suc, ◌+◌, ◌-◌, ◌<◌, ◌≤◌, Bool, true, false, cond, not, eqb, List, [], ◌∷◌, ◌++◌, map, length, get_or, take, drop, Some, Option, sym, refl, ap, ◌∙◌, subst, arith, rules}
 use Rattle.std.specs.List.Sorted.{IsPermutation}
-use Rattle.std.specs.List.{AllByRecursion as All}
+use Rattle.std.specs.List.{AllByRecursion}
 use Rattle.std.proofs.lemmas.List.{take_more, length-take-le, drop-drop}
 use Rattle.std.proofs.lemmas.Bool.{not-true, not-false, eqb-true}
 use Rattle.std.proofs.lemmas.List.Sorted.{length_permutation, IsPermutation-trans, IsPermutation-to_front, IsPermutation-cons}
@@ -76,11 +76,11 @@ fills rs i d es fs h was pushed =
 pub filled_length : (rs : List Record) (i : ℕ) (es : List Lined) → i ≤ length rs → IsPermutation (lined 0 (take i rs)) es → length es ≡ i
 filled_length rs i es h w = length_permutation _ es w ∙ length_lined 0 (take i rs) ∙ length-take-le i rs h
 
-lined_below : (j n : ℕ) (rs : List Record) → j + length rs ≤ n → All (λ e. e.index < n) (lined j rs)
+lined_below : (j n : ℕ) (rs : List Record) → j + length rs ≤ n → AllByRecursion (λ e. e.index < n) (lined j rs)
 lined_below j n [] h = tt
 lined_below j n (r ∷ rs) h = (omega arith, lined_below (j + 1) n rs (omega arith))
 
-pub indices_below : (rs : List Record) (n : ℕ) (es : List Lined) → length rs ≡ n → IsPermutation (lined 0 rs) es → All (λ e. e.index < n) es
+pub indices_below : (rs : List Record) (n : ℕ) (es : List Lined) → length rs ≡ n → IsPermutation (lined 0 rs) es → AllByRecursion (λ e. e.index < n) es
 indices_below rs n es e w = all_shuffled (λ e. e.index < n) _ es w (lined_below 0 n rs (omega arith))
 
 -- placing the next: what is left, placed over the records as they stand, gives the whole

@@ -1,7 +1,7 @@
 // First-fit over records that are duty records already, in place.
 ghost use Rattle.std.specs.Prelude.{◌≡◌, ◌<◌, ◌≤◌, true, not, [], length, ◌==◌};
 ghost use Rattle.std.specs.List.Sorted.{IsPermutation};
-ghost use Rattle.std.specs.List.{AllByRecursion as All};
+ghost use Rattle.std.specs.List.{AllByRecursion};
 ghost use Rattle.duty.specs.Limits.{most_boards, most_duties};
 ghost use Rattle.heap.specs.Held.{held, memory, room};
 ghost use Rattle.heap.specs.Order.{Heaped};
@@ -72,7 +72,7 @@ fn take_all<G: Gauge>(
 ) -> Result<(), Fault>
     requires few { (length records.old ≤ most_duties) × (boards ≤ most_boards) }
     requires heaped { Heaped sooner (held heap.old) }
-    requires within { All (λ e. e.index < length records.old) (held heap.old) }
+    requires within { AllByRecursion (λ e. e.index < length records.old) (held heap.old) }
     ensures records { records.new ≡ (placed (G.passed gauge.now) boards cycle records.old (taken (held heap.old))).0 }
     ensures answer { result ≡ placed_answer (placed (G.passed gauge.now) boards cycle records.old (taken (held heap.old))).1 }
     ensures memory { Past (length (held heap.old)) (memory heap.old) (memory heap.new) }

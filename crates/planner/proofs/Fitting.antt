@@ -1,7 +1,7 @@
 -- Placed records are duty records of the cycle still: only their boards changed, to boards of the rack.
 use Rattle.std.proofs.Common.{◌≡◌, ℕ, suc, ◌+◌, ◌%◌, ◌<◌, ◌≤◌, true, eqb, List, [], ◌∷◌, length, get_or, None, sym, refl, ap, ◌∙◌, arith}
 use Rattle.std.specs.Option.{option_map}
-use Rattle.std.specs.List.{AllByRecursion as All}
+use Rattle.std.specs.List.{AllByRecursion}
 use Rattle.std.proofs.lemmas.Bool.{cond-true, and_from, and_parts, le-leb}
 use Rattle.duty.specs.declared.names.Name.{Name}
 use Rattle.duty.specs.declared.records.Record.{Record}
@@ -18,12 +18,12 @@ use Rattle.placing.specs.FirstFit.{moved_to, cleared}
 abbrev pub Fits : ℕ → Record → Type 0
 Fits cycle r = in_cycle cycle r ≡ true
 
-pub no_misfit : (cycle : ℕ) (rs : List Record) → All (Fits cycle) rs → first_misfit cycle rs ≡ None
+pub no_misfit : (cycle : ℕ) (rs : List Record) → AllByRecursion (Fits cycle) rs → first_misfit cycle rs ≡ None
 no_misfit cycle [] h = refl
 no_misfit cycle (r ∷ rs) h =
     cond-true (in_cycle cycle r) _ _ h.0 ∙ ap (option_map (λ i. i + 1)) (no_misfit cycle rs h.1)
 
-pub writable_fits : (form : Form) (cycle : ℕ) (rs : List Record) → All (Writable form cycle) rs → All (Fits cycle) rs
+pub writable_fits : (form : Form) (cycle : ℕ) (rs : List Record) → AllByRecursion (Writable form cycle) rs → AllByRecursion (Fits cycle) rs
 writable_fits form cycle [] h = tt
 writable_fits form cycle (r ∷ rs) h = (h.0.duty, writable_fits form cycle rs h.1)
 
@@ -40,7 +40,7 @@ moved_fits cycle f r e small h =
     let divides : eqb (cycle % f.timing.spacing) 0 ≡ true = ap (λ (x : Timing). eqb (cycle % x.spacing) 0) (sym timing) ∙ a.1 in
     and_from _ _ (and_from _ _ good_name (and_from _ _ good_timing (le-leb _ _ small))) divides
 
-pub placed_fit : (cycle : ℕ) (fs rs : List Record) → cleared fs ≡ cleared rs → ((k : ℕ) → k < length fs → (get_or fs k no_record).board ≤ 16) → All (Fits cycle) rs → All (Fits cycle) fs
+pub placed_fit : (cycle : ℕ) (fs rs : List Record) → cleared fs ≡ cleared rs → ((k : ℕ) → k < length fs → (get_or fs k no_record).board ≤ 16) → AllByRecursion (Fits cycle) rs → AllByRecursion (Fits cycle) fs
 placed_fit cycle [] rs e small h = tt
 placed_fit cycle (f ∷ fs) [] e small h = let z : ◌≡◌ {A = ℕ} 0 1 = cc in absurd (omega arith)
 placed_fit cycle (f ∷ fs) (r ∷ rs) e small h =
@@ -51,7 +51,7 @@ placed_fit cycle (f ∷ fs) (r ∷ rs) e small h =
     )
 
 -- what could be written in a table can be written in a plan
-pub placed_writable : (cycle : ℕ) (fs rs : List Record) → cleared fs ≡ cleared rs → All (Fits cycle) fs → All (Writable Table cycle) rs → All (Writable Plan cycle) fs
+pub placed_writable : (cycle : ℕ) (fs rs : List Record) → cleared fs ≡ cleared rs → AllByRecursion (Fits cycle) fs → AllByRecursion (Writable Table cycle) rs → AllByRecursion (Writable Plan cycle) fs
 placed_writable cycle [] rs e fit h = tt
 placed_writable cycle (f ∷ fs) [] e fit h = let z : ◌≡◌ {A = ℕ} 0 1 = cc in absurd (omega arith)
 placed_writable cycle (f ∷ fs) (r ∷ rs) e fit h =

@@ -1,6 +1,6 @@
 -- A plan by first-fit in which all duties were placed reads back from its text, and can be closed.
 use Rattle.std.proofs.Common.{◌≡◌, ℕ, ◌<◌, ◌≤◌, true, List, ◌++◌, length, get_or, take, drop, None, Ok, sym, refl, ap, ◌∙◌, subst, ⊎_elim, arith, length-append}
-use Rattle.std.specs.List.{AllByRecursion as All}
+use Rattle.std.specs.List.{AllByRecursion}
 use Rattle.std.proofs.ByRecursion.{All-get_or}
 use Rattle.std.proofs.lemmas.List.{take_at, get_or-take}
 use Rattle.fault.proofs.Steps.{then_ok}
@@ -21,7 +21,7 @@ use Rattle.plans.proofs.Deciding.{back}
 use Rattle.planner.specs.Laws.{with_rows, Good}
 use Rattle.planner.proofs.Fitting.{Fits, placed_writable}
 
-module _ (t : Sheet) (fs : List Record) (law : FirstFit (letter_passed t.head.letter) t.head.boards t.head.cycle t.rows fs None) (valid : Valid Table t) (long : length fs ≡ t.head.duties) (fit : All (Fits t.head.cycle) fs) where
+module _ (t : Sheet) (fs : List Record) (law : FirstFit (letter_passed t.head.letter) t.head.boards t.head.cycle t.rows fs None) (valid : Valid Table t) (long : length fs ≡ t.head.duties) (fit : AllByRecursion (Fits t.head.cycle) fs) where
   valid_plan : Valid Plan (with_rows t fs)
   valid_plan = record { limits = valid.limits; count = long; rows = placed_writable t.head.cycle fs t.rows law.same_duties fit valid.rows }
 

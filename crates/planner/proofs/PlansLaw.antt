@@ -1,6 +1,6 @@
 -- The call's law, from the definitions of its three steps.
 use Rattle.std.proofs.Common.{◌≡◌, ℕ, ◌<◌, ◌≤◌, List, ◌++◌, length, get_or, take, drop, Some, None, Ok, Option, Result, refl, ap, ◌∙◌, subst, arith, length-append}
-use Rattle.std.specs.List.{AllByRecursion as All}
+use Rattle.std.specs.List.{AllByRecursion}
 use Rattle.std.proofs.lemmas.List.{take_at}
 use Rattle.std.proofs.lemmas.Bool.{cond-false, le-ltb}
 use Rattle.fault.specs.declared.Fault.{Fault}
@@ -29,14 +29,14 @@ use Rattle.planner.proofs.Fitting.{Fits, no_misfit, writable_fits, placed_fit}
 use Rattle.planner.proofs.GoodPlans.{good_plan}
 
 -- records of which the header's are duty records of its cycle pass the first checks
-checked : (h : Head) (xs more : List Record) → length xs ≡ h.duties → All (Fits h.cycle) xs → records_fault h (xs ++ more) ≡ Ok tt
+checked : (h : Head) (xs more : List Record) → length xs ≡ h.duties → AllByRecursion (Fits h.cycle) xs → records_fault h (xs ++ more) ≡ Ok tt
 checked h xs more long fit =
     let part : take h.duties (xs ++ more) ≡ xs = take_at xs more h.duties long in
     cond-false _ _ _ (le-ltb (length (xs ++ more)) h.duties (omega (arith, length-append xs more)))
     ∙ ap misfit_fault (ap (first_misfit h.cycle) part ∙ no_misfit h.cycle xs fit)
 
 module _ (t : Sheet) (more : List Record) (scratch room : ℕ) (valid : Valid Table t) (enough : t.head.duties ≤ scratch) (fits : text_length Plan t.head.duties ≤ room) where
-  good : All (Fits t.head.cycle) t.rows
+  good : AllByRecursion (Fits t.head.cycle) t.rows
   good = writable_fits Table t.head.cycle t.rows valid.rows
 
   abbrev ff : List Record × Option ℕ
@@ -65,7 +65,7 @@ module _ (t : Sheet) (more : List Record) (scratch room : ℕ) (valid : Valid Ta
   long = first_fit_long (letter_passed t.head.letter) t.head.boards t.head.cycle t.rows ∙ valid.count
 
   -- where all were placed, they are duty records still
-  fit : ff.1 ≡ None → All (Fits t.head.cycle) ff.0
+  fit : ff.1 ≡ None → AllByRecursion (Fits t.head.cycle) ff.0
   fit all =
       let boards = (limited t.head valid.limits).boards.high in
       let on_board : (k : ℕ) → k < length ff.0 → (get_or ff.0 k no_record).board ≤ t.head.boards = λ k l. (law.all_on_boards all k (omega (arith, l, long, valid.count))).1 in

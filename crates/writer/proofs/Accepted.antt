@@ -1,7 +1,7 @@
 -- What is known of a header and records that were not refused.
 use Rattle.std.proofs.Common.{◌≡◌, ℕ, ◌%◌, ◌≤◌, true, false, ◌&&◌, eqb, ltb, leb, List, [], ◌∷◌, length, take, Some, None, Ok, Option, sym, refl, ◌∙◌, ⊎_elim, arith, length-take}
 use Rattle.std.specs.Option.{option_map}
-use Rattle.std.specs.List.{AllByRecursion as All}
+use Rattle.std.specs.List.{AllByRecursion}
 use Rattle.std.proofs.ByRecursion.{All-weaker}
 use Rattle.std.proofs.lemmas.Bool.{cases_Bool, cond-true, cond-false, and_parts, and_from, leb-true, le-leb, ltb-false, le-ltb}
 use Rattle.fault.proofs.Steps.{never, passed_unless, then_ok}
@@ -33,7 +33,7 @@ mapped_none f None e = refl
 mapped_none f (Some i) e = absurd (some_place e)
 
 -- where no row is found, each is a duty record of the cycle
-no_misfit : (cycle : ℕ) (rs : List Record) → first_misfit cycle rs ≡ None → All (λ r. in_cycle cycle r ≡ true) rs
+no_misfit : (cycle : ℕ) (rs : List Record) → first_misfit cycle rs ≡ None → AllByRecursion (λ r. in_cycle cycle r ≡ true) rs
 no_misfit cycle [] e = tt
 no_misfit cycle (r ∷ rs) e =
     ⊎_elim
@@ -82,10 +82,10 @@ module _ (h : Head) (rs : List Record) (ok : records_fault h rs ≡ Ok tt) where
   pub length_rows : length (take h.duties rs) ≡ h.duties
   length_rows = let few = enough in omega (arith, length-take h.duties rs)
 
-  pub all_duties : All (λ r. in_cycle h.cycle r ≡ true) (take h.duties rs)
+  pub all_duties : AllByRecursion (λ r. in_cycle h.cycle r ≡ true) (take h.duties rs)
   all_duties = no_misfit h.cycle (take h.duties rs) (misfit_none _ passed.1)
 
-  pub all_fitting : All Fitting (take h.duties rs)
+  pub all_fitting : AllByRecursion Fitting (take h.duties rs)
   all_fitting = All-weaker (λ r. in_cycle h.cycle r ≡ true) Fitting (fitting h.cycle) (take h.duties rs) all_duties
 
   pub write_ok : (form : Form) (room : ℕ) → text_length form h.duties ≤ room → write_of form h rs room ≡ Ok (text form (sheet h rs))

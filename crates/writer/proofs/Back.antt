@@ -1,6 +1,6 @@
 -- What was written reads back.
 use Rattle.std.proofs.Common.{◌≡◌, ℕ, ◌%◌, true, ◌&&◌, eqb, List, [], ◌∷◌, ◌++◌, map, take, Ok, sym, refl, ap, ◌∙◌}
-use Rattle.std.specs.List.{flat_map, AllByRecursion as All}
+use Rattle.std.specs.List.{flat_map, AllByRecursion}
 use Rattle.std.proofs.lemmas.List.{length-map}
 use Rattle.std.proofs.lemmas.Bool.{and_from}
 use Rattle.duty.specs.declared.records.Record.{Record}
@@ -26,7 +26,7 @@ writable Table cycle r duty sized =
     record { sized = sized; duty = and_from (duty_record boardless) (eqb (cycle % r.timing.spacing) 0) names t.divides; placeless = refl }
 writable Plan cycle r duty sized = record { sized = sized; duty = duty; placeless = tt }
 
-all_writable : (form : Form) (cycle : ℕ) (rs : List Record) → All (λ r. in_cycle cycle r ≡ true) rs → All Sized rs → All (Writable form cycle) (map (shown form) rs)
+all_writable : (form : Form) (cycle : ℕ) (rs : List Record) → AllByRecursion (λ r. in_cycle cycle r ≡ true) rs → AllByRecursion Sized rs → AllByRecursion (Writable form cycle) (map (shown form) rs)
 all_writable form cycle [] duties sized = tt
 all_writable form cycle (r ∷ rs) duties sized =
     (writable form cycle r duties.0 sized.0, all_writable form cycle rs duties.1 sized.1)
@@ -37,7 +37,7 @@ lines_shown form [] = refl
 lines_shown Table (r ∷ rs) = ap (λ (l : List ℕ). line_text Table r ++ l) (lines_shown Table rs)
 lines_shown Plan (r ∷ rs) = ap (λ (l : List ℕ). line_text Plan r ++ l) (lines_shown Plan rs)
 
-module _ (form : Form) (h : Head) (rs : List Record) (limits : head_limits h ≡ true) (ok : records_fault h rs ≡ Ok tt) (sized : All Sized (take h.duties rs)) where
+module _ (form : Form) (h : Head) (rs : List Record) (limits : head_limits h ≡ true) (ok : records_fault h rs ≡ Ok tt) (sized : AllByRecursion Sized (take h.duties rs)) where
   valid : Valid form (whole h (map (shown form) (take h.duties rs)))
   valid = record {
     limits = limits;

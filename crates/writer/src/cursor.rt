@@ -1,6 +1,6 @@
 // A writer over lent memory, with methods for a field, a line and a whole text.
 ghost use Rattle.std.specs.Prelude.{◌≡◌, ◌+◌, ◌-◌, ◌*◌, ◌^◌, ◌<◌, ◌≤◌, length};
-ghost use Rattle.std.specs.List.{flat_map, AllByRecursion as All};
+ghost use Rattle.std.specs.List.{flat_map, AllByRecursion};
 ghost use Rattle.duty.specs.Heads.{head};
 ghost use Rattle.duty.specs.Limits.{most_boards};
 ghost use Rattle.columns.specs.Forms.{line_width};
@@ -122,11 +122,11 @@ impl<'a> Writer<'a> {
 
     // Puts a line for each record.
     fn lines(&mut self, form: Form, records: &[Record])
-        requires fits { All Fitting records.now }
+        requires fits { AllByRecursion Fitting records.now }
         requires room { self.old.pos + (line_width form + 1) * length records.now ≤ length self.old.out.now }
         ensures value { self.new.out.now ≡ put self.old.pos (flat_map (line_text form) records.now) self.old.out.now }
         ensures full { length (flat_map (line_text form) records.now) ≡ (line_width form + 1) * length records.now }
-        ensures sized { All Sized records.now }
+        ensures sized { AllByRecursion Sized records.now }
         ensures long { length self.new.out.now ≡ length self.old.out.now }
         ensures moves { self.new.pos ≡ self.old.pos + (line_width form + 1) * length records.now }
         ensures same { self.new.out.ghost_name ≡ self.old.out.ghost_name }
@@ -138,11 +138,11 @@ impl<'a> Writer<'a> {
 
     // Puts a whole text: the header's line, and a line for each record.
     pub(crate) fn sheet(&mut self, form: Form, header: &Header, records: &[Record])
-        requires fits { All Fitting records.now }
+        requires fits { AllByRecursion Fitting records.now }
         requires room { self.old.pos + text_length form (length records.now) ≤ length self.old.out.now }
         ensures value { self.new.out.now ≡ put self.old.pos (text form (whole (head header.now) records.now)) self.old.out.now }
         ensures full { length (text form (whole (head header.now) records.now)) ≡ text_length form (length records.now) }
-        ensures sized { All Sized records.now }
+        ensures sized { AllByRecursion Sized records.now }
         ensures long { length self.new.out.now ≡ length self.old.out.now }
         ensures moves { self.new.pos ≡ self.old.pos + text_length form (length records.now) }
         ensures same { self.new.out.ghost_name ≡ self.old.out.ghost_name }

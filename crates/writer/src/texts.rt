@@ -1,6 +1,6 @@
 // The texts of a table and of a plan.
 ghost use Rattle.std.specs.Prelude.{◌≡◌, ◌≤◌, length, take, IfOk};
-ghost use Rattle.std.specs.List.{AllByRecursion as All};
+ghost use Rattle.std.specs.List.{AllByRecursion};
 ghost use Rattle.duty.specs.Heads.{head};
 ghost use Rattle.columns.specs.declared.forms.Form.TheVariants.{Table, Plan};
 ghost use Rattle.columns.specs.Texts.{text, text_length};
@@ -14,11 +14,11 @@ use fault::{Cause, Fault, Layer};
 
 // Puts the text into the first bytes of the output, which has room for it.
 fn fill(form: Form, header: &Header, records: &[Record], out: &mut [u8])
-    requires fits { All Fitting records.now }
+    requires fits { AllByRecursion Fitting records.now }
     requires room { text_length form (length records.now) ≤ length out.old }
     ensures value { out.new ≡ put 0 (text form (whole (head header.now) records.now)) out.old }
     ensures full { length (text form (whole (head header.now) records.now)) ≡ text_length form (length records.now) }
-    ensures sized { All Sized records.now }
+    ensures sized { AllByRecursion Sized records.now }
 {
     let mut writer = Writer::new(out);
     writer.sheet(form, header, records);

@@ -1,5 +1,5 @@
 use Rattle.std.proofs.Common.{◌≡◌, ◌<◌, ◌≤◌, length}
-use Rattle.std.specs.List.{AllByRecursion as All}
+use Rattle.std.specs.List.{AllByRecursion}
 use Rattle.heap.specs.Held.{held, memory}
 use Rattle.heap.specs.Order.{Heaped}
 use Rattle.placing.specs.FirstFit.{placed}
@@ -11,7 +11,7 @@ use Rattle.placing.proofs.first_fit.take_all.Given as goal
 abbrev pub invariant-loop-next : goal.invariant-loop-next
 invariant-loop-next g l =
     Heaped sooner (held l.heap)
-    × All (λ e. e.index < length l.initial.records) (held l.heap)
+    × AllByRecursion (λ e. e.index < length l.initial.records) (held l.heap)
     × (placed (g.G.Gauge.passed l.gauge) l.boards l.cycle l.records (taken (held l.heap)) ≡ placed (g.G.Gauge.passed l.gauge) l.boards l.cycle l.initial.records (taken (held l.initial.heap)))
     × Past (length (held l.initial.heap)) (memory l.initial.heap) (memory l.heap)
     × (l.heap.slots.ghost_name ≡ l.initial.heap.slots.ghost_name)

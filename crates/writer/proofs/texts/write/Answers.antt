@@ -1,5 +1,5 @@
 use Rattle.std.proofs.Common.{◌≡◌, ℕ, ◌-◌, List, length, take, Ok, sym, ap, ◌∙◌, subst, arith}
-use Rattle.std.specs.List.{AllByRecursion as All}
+use Rattle.std.specs.List.{AllByRecursion}
 use Rattle.std.proofs.lemmas.List.{take_at}
 use Rattle.duty.specs.declared.records.Record.{Record}
 use Rattle.duty.specs.Heads.{head}
@@ -47,5 +47,5 @@ returns c =
       answer = ap Ok (sym full) ∙ sym (ap length_in e);
       after = value ∙ sym (ap (λ r. out_in r out) e);
       within = omega arith;
-      back = text_back form h rs limits ok (subst (All Sized) rows c.fill.ensures.sized) (take n c.fill.new.out) (ap (take n) value ∙ take_at whole_text _ n full);
+      back = text_back form h rs limits ok (subst (AllByRecursion Sized) rows c.fill.ensures.sized) (take n c.fill.new.out) (ap (take n) value ∙ take_at whole_text _ n full);
     }

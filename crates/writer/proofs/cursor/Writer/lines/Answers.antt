@@ -1,5 +1,5 @@
 use Rattle.std.proofs.Common.{◌≡◌, ℕ, ◌+◌, ◌*◌, List, [], length, sym, refl, ap, ◌∙◌, subst, mul-zero, arith}
-use Rattle.std.specs.List.{flat_map, AllByRecursion as All}
+use Rattle.std.specs.List.{flat_map, AllByRecursion}
 use Rattle.std.proofs.ByRecursion.{All-get_or, All-more}
 use Rattle.std.proofs.lemmas.List.{take_all}
 use Rattle.duty.specs.declared.records.Record.{Record}
@@ -46,7 +46,7 @@ returns c =
       long = v.2;
       moves = v.3 ∙ ap (λ (n : ℕ). c.args.self.now.pos + (line_width c.args.form + 1) * n) end;
       same = v.4;
-      sized = subst (All Sized) all v.5;
+      sized = subst (AllByRecursion Sized) all v.5;
     }
 
 pub line-requires : goal.line-requires

@@ -1,5 +1,5 @@
 use Rattle.std.proofs.Common.{◌≡◌, ◌+◌, ◌*◌, length, take}
-use Rattle.std.specs.List.{flat_map, AllByRecursion as All}
+use Rattle.std.specs.List.{flat_map, AllByRecursion}
 use Rattle.columns.specs.Forms.{line_width}
 use Rattle.columns.specs.Texts.{line_text}
 use Rattle.writer.specs.Puts.{put, Sized}
@@ -13,4 +13,4 @@ invariant-loop-row l =
     × (length l.self.out.now ≡ length l.initial.self.out.now)
     × (l.self.pos ≡ l.initial.self.pos + (line_width l.form + 1) * l.row-index)
     × (l.self.out.ghost_name ≡ l.initial.self.out.ghost_name)
-    × All Sized (take l.row-index l.records)
+    × AllByRecursion Sized (take l.row-index l.records)
