@@ -5,7 +5,8 @@ usage: python3 tools/respell.py     at the top of a checkout, right after the ki
 
 What a definition file of specs/ or proofs/ declares with a dash in its name is respelled wherever it is named: in those
 files, in clauses and ghost items of src/, in must-fail edits and between backticks in the pages. Functions of src/, strings, comments,
-inputs and outputs stay. The program `check` has the name of a library of the kit, and becomes `plan_check`.
+inputs and outputs stay. The program `check` has the name of a library of the kit, and becomes `plan_check`. The library's All by recursion
+goes by its own name, since All is today another.
 It stops, and writes nothing, where two names would fall together.
 """
 
@@ -22,6 +23,7 @@ QUOTED = re.compile(r'"(?:[^"\\]|\\.)*"')
 GOALS = ("Answers.antt", "Invariants.antt", "Proof.antt")
 # arguments of lemmas, and names given on import
 ARGUMENTS = "at-k by-index bytes-are few-boards few-duties good-name good-timing head-is in-call in-text in-time in-word no-blank no-fit no-ticks of-p short-cycle some-board some-cycle some-ticks too-late zero-clock".split()
+ALL = "AllByRecursion as All"
 # types that were spelled as words, with the crate that has them
 TYPES = {"trials": {"short": "Short", "short-call": "ShortCall", "short-command": "ShortCommand"}}
 
@@ -90,8 +92,11 @@ def main():
         crate = path.split("/")[1]
         mark = "//" if path.endswith(".rt") else "--"
         lines = []
+        by_recursion = ALL in read(path)
         for line in read(path).split("\n"):
             text, comment = code(line, mark)
+            if by_recursion:
+                text = re.sub(r"(?<![\w'◌.-])All(?![\w'-])", "AllByRecursion", text.replace(ALL, "AllByRecursion"))
             quotes = QUOTED.findall(text) + [""]
             between = [respell(t, TYPES.get(crate, ())) for t in QUOTED.split(text)]
             lines.append("".join(t + q for t, q in zip(between, quotes)) + comment)
