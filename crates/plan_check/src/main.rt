@@ -1,4 +1,4 @@
-// check: reads a plan from standard input and prints OK, or the one line of its refusal.
+// plan_check: reads a plan from standard input and prints OK, or the one line of its refusal.
 #![tactic(auto)]
 
 use columns::Form;
