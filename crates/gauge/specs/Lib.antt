@@ -7,6 +7,7 @@ pub mod Exact
 pub mod Shortage
 pub mod Shown
 pub mod Letters
+-- lemmas: on them rest the proofs that the gauges keep the law, which are terms in src/ and may cite no file of proofs/
 pub mod LettersLemmas
 pub mod Cycles
 pub mod Totals

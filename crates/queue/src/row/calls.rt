@@ -4,7 +4,6 @@ ghost use Rattle.std.specs.Option.{option_map};
 ghost use Rattle.queue.specs.First.{earlier};
 ghost use Rattle.queue.specs.Places.{place_fault, all_empty};
 ghost use Rattle.queue.specs.Views.{due};
-ghost use Rattle.std.proofs.Common.{rules, arith};
 
 use super::{PLACES, RowQueue};
 use crate::ready::ReadyQueue;
@@ -63,7 +62,7 @@ fn better(best: Option<Waiting>, place: usize, slot: Option<u64>) -> Option<Wait
 impl ReadyQueue for RowQueue {
     ghost held = { λ q. q.slots };
 
-    ghost wide = { first_of (Prim.search rules, Prim.grind (arith, Self.row.coded.inj)) };
+    ghost wide = { λ q. q.wide };
 
     fn put(&mut self, place: usize, deadline: u64) -> Result<(), Fault> {
         check(place)?;
