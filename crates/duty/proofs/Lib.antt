@@ -1,3 +1,1 @@
-pub mod Prefixes
 pub mod Stems
-pub mod Failing

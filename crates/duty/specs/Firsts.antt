@@ -1,8 +1,6 @@
 -- The first element of a list that fails a test.
-use Rattle.std.specs.Prelude.{ℕ, ◌+◌, Bool, cond, List, [], ◌∷◌, Some, None, Option}
-use Rattle.std.specs.Option.{option_map}
+use Rattle.std.specs.Prelude.{ℕ, Bool, not, List, Option, position}
 
 -- its place, counted from 0
 abbrev pub first_failing : {A : Type 0} → (A → Bool) → List A → Option ℕ
-first_failing test [] = None
-first_failing test (x ∷ xs) = cond (test x) (option_map (λ i. i + 1) (first_failing test xs)) (Some 0)
+first_failing test xs = position (λ x. not (test x)) xs

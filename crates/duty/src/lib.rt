@@ -10,7 +10,7 @@ mod timings;
 
 pub use duties::Duty;
 pub use headers::Header;
-pub use letters::Letter;
+pub use letters::{Letter, NoLetter};
 pub use names::{Name, good_prefix};
 pub use records::{Record, first_misfit};
 pub use timings::{LONGEST, Timing};

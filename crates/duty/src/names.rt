@@ -8,38 +8,40 @@ pub struct Name {
     pub bytes: [u8; 8],
 }
 
-fn is_name_byte(b: u8) -> bool
-    ensures { result ≡ name_byte b }
+fn is_name_byte(byte: u8) -> bool
+    ensures { result ≡ name_byte byte }
 {
-    (b >= b'A' && b <= b'Z') || (b >= b'0' && b <= b'9')
+    matches!(byte, b'A'..=b'Z' | b'0'..=b'9')
 }
 
-fn is_tail_byte(b: u8) -> bool
-    ensures { result ≡ (name_byte b || b == 45) }
+fn is_tail_byte(byte: u8) -> bool
+    ensures { result ≡ (name_byte byte || byte == 45) }
 {
-    is_name_byte(b) || b == b'-'
+    is_name_byte(byte) || byte == b'-'
 }
 
 fn blank_prefix(bytes: &[u8]) -> usize
     ensures value { result ≡ blanks_in bytes.now }
     ensures within { result ≤ length bytes.now }
 {
-    let mut i = 0;
-    while i < bytes.len() && bytes[i] == b' ' {
-        i += 1;
+    for (i, byte) in bytes.iter().enumerate() {
+        if *byte != b' ' {
+            return i;
+        }
     }
-    i
+    bytes.len()
 }
 
 fn tail_prefix(bytes: &[u8]) -> usize
     ensures value { result ≡ tail_in bytes.now }
     ensures within { result ≤ length bytes.now }
 {
-    let mut i = 0;
-    while i < bytes.len() && is_tail_byte(bytes[i]) {
-        i += 1;
+    for (i, byte) in bytes.iter().enumerate() {
+        if !is_tail_byte(*byte) {
+            return i + blank_prefix(&bytes[i..]);
+        }
     }
-    i + blank_prefix(&bytes[i..])
+    bytes.len()
 }
 
 // How many bytes from the start may stand in a name.

@@ -44,10 +44,5 @@ pub fn first_misfit(records: &[Record], cycle: u32) -> Option<usize>
     ensures answer { result ≡ first_misfit cycle records.now }
     ensures within { IfSome result (λ i. i < length records.now) }
 {
-    for (i, record) in records.iter().enumerate() {
-        if !record.is_duty_of(cycle) {
-            return Some(i);
-        }
-    }
-    None
+    records.iter().position(|record| !record.is_duty_of(cycle))
 }

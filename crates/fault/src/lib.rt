@@ -117,6 +117,17 @@ impl Fault {
         }
     }
 
+    // The same refusal, at this line and column.
+    pub fn at(self, line: usize, column: usize) -> Fault
+        ensures { result ≡ fault self.cause line column self.layer }
+    {
+        Fault {
+            line,
+            column,
+            ..self
+        }
+    }
+
     // The number of its cause.
     pub fn number(&self) -> u8
         ensures { result ≡ number self.now.cause }
@@ -128,9 +139,12 @@ impl Fault {
 // The line that programs print for a refusal: the word, then number, line and column in three columns each.
 impl fmt::Display for Fault {
     fn fmt<W: fmt::Write>(&self, f: &mut fmt::Formatter<W>) -> fmt::Result {
-        let number = self.number();
-        let line = self.line;
-        let column = self.column;
-        write!(f, "REFUSED{number:>3}{line:>3}{column:>3}")
+        write!(
+            f,
+            "REFUSED{:>3}{:>3}{:>3}",
+            self.number(),
+            self.line,
+            self.column
+        )
     }
 }

@@ -11,6 +11,9 @@ impl Header {
     // The most duties of a table.
     pub const MOST_DUTIES: u8 = 64;
 
+    // As many records hold the duties of any table.
+    pub const MOST_RECORDS: usize = Self::MOST_DUTIES as usize;
+
     // A header of these numbers, if they keep the limits.
     pub fn new(letter: Letter, boards: u8, duties: u8, cycle: u32) -> Option<Header>
         ensures { heads result ≡ header_of letter boards duties cycle }
