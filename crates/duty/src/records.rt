@@ -40,6 +40,7 @@ impl Record {
 }
 
 // The first row that is no duty record of the cycle.
+#[tactic(auto, unfolding(crate::specs::Firsts::first_failing))]
 pub fn first_misfit(records: &[Record], cycle: u32) -> Option<usize>
     ensures answer { result ≡ first_misfit cycle records.now }
     ensures within { IfSome result (λ i. i < length records.now) }
