@@ -1,7 +1,9 @@
 -- The steps of the loops that count and write the digits of a number, from its last column back.
-use Rattle.std.proofs.Common.{◌≡◌, ℕ, ◌+◌, ◌-◌, ◌/◌, ◌%◌, ◌^◌, ◌<◌, ◌≤◌, List, [], ◌∷◌, ◌++◌, length, drop, set, replicate, decimal, sym, ap, ◌∙◌, append_assoc, arith}
-use Rattle.std.proofs.lemmas.Fmt.{decimal_step, decimal_digit}
-use Rattle.std.proofs.lemmas.List.{drop-set, replicate_more, length_push}
+use Rattle.std.proofs.Common.{◌≡◌, ℕ, zero, suc, ◌+◌, ◌-◌, ◌/◌, ◌%◌, ◌^◌, ◌<◌, ◌≤◌, List, [], ◌∷◌, ◌++◌, length, take, drop, set, replicate, decimal, sym, ap, ◌∙◌, append_assoc, ⊎_elim, pow-suc, arith}
+use native.Mathlib.Nat.{pow-le-pow_right}
+use Rattle.std.proofs.lemmas.Fmt.{decimal_step, decimal_digit, decimal_nonempty}
+use Rattle.std.proofs.lemmas.List.{drop-set, take-set, take-take, take-replicate, length_push}
+use Rattle.std.proofs.lemmas.Bool.{cases_lt}
 use Rattle.columns.specs.Numerals.{justified}
 
 pub one_digit : (n : ℕ) → n < 10 → length (decimal n) ≡ 1
@@ -9,6 +11,18 @@ one_digit n small = ap length (decimal_digit n small)
 
 pub digits_step : (n : ℕ) → 10 ≤ n → n < 2 ^ 64 → length (decimal n) ≡ length (decimal (n / 10)) + 1
 digits_step n big fits = ap length (decimal_step n big fits) ∙ length_push (decimal (n / 10)) _
+
+-- a number of so many digits is below that power of ten
+pub few_digits : (k n : ℕ) → n < 2 ^ 64 → length (decimal n) ≤ k → n < 10 ^ k
+few_digits zero n fits few = absurd (omega (arith, decimal_nonempty n fits))
+few_digits (suc k) n fits few =
+    let some : 1 ≤ 10 ^ k = pow-le-pow_right {n = 10} (omega arith) {i = 0} {j = k} (omega arith) in
+    rw (pow-suc 10 k) (
+    ⊎_elim
+    (λ (small : n < 10). omega arith)
+    (λ (big : 10 ≤ n). let rest : n / 10 < 10 ^ k = few_digits k (n / 10) (omega arith) (omega (arith, digits_step n big fits)) in omega arith)
+    (cases_lt n 10)
+    )
 
 justified_step : (i n : ℕ) → 10 ≤ n → n < 2 ^ 64 → justified (i + 1) n ≡ justified i (n / 10) ++ (48 + n % 10) ∷ []
 justified_step i n big fits =
@@ -29,8 +43,17 @@ put_last i b front out h = ap (λ (l : List ℕ). front ++ l) (drop-set out i b 
 pub write_digit : (i n : ℕ) (out : List ℕ) → 10 ≤ n → n < 2 ^ 64 → i < length out → justified i (n / 10) ++ drop i (set out i (48 + n % 10)) ≡ justified (i + 1) n ++ drop (i + 1) out
 write_digit i n out big fits h = put_last i _ _ out h ∙ ap (λ (f : List ℕ). f ++ drop (i + 1) out) (sym (justified_step i n big fits))
 
-pub write_last : (i n : ℕ) (out : List ℕ) → n < 10 → i < length out → replicate i 32 ++ drop i (set out i (48 + n)) ≡ justified (i + 1) n ++ drop (i + 1) out
-write_last i n out small h = put_last i _ _ out h ∙ ap (λ (f : List ℕ). f ++ drop (i + 1) out) (sym (justified_last i n small))
+pub write_last : (i n : ℕ) (out : List ℕ) → n < 10 → i < length out → replicate i 32 ++ drop i (set out i (48 + n % 10)) ≡ justified (i + 1) n ++ drop (i + 1) out
+write_last i n out small h =
+    let digit : n % 10 ≡ n = omega arith in
+    ap (λ (d : ℕ). replicate i 32 ++ drop i (set out i (48 + d))) digit
+    ∙ put_last i _ _ out h
+    ∙ ap (λ (f : List ℕ). f ++ drop (i + 1) out) (sym (justified_last i n small))
 
-pub write_blank : (i : ℕ) (out : List ℕ) → i < length out → replicate i 32 ++ drop i (set out i 32) ≡ replicate (i + 1) 32 ++ drop (i + 1) out
-write_blank i out h = put_last i _ _ out h ∙ ap (λ (f : List ℕ). f ++ drop (i + 1) out) (replicate_more i 32)
+-- the columns before a byte that is put stay blank
+pub blank_before : (i b : ℕ) (out : List ℕ) → take i out ≡ replicate i 32 → take (i - 1) (set out (i - 1) b) ≡ replicate (i - 1) 32
+blank_before i b out blank =
+    take-set out (i - 1) b
+    ∙ sym (take-take (i - 1) i out (omega arith))
+    ∙ ap (take (i - 1)) blank
+    ∙ take-replicate (i - 1) i 32 (omega arith)

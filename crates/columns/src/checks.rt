@@ -5,7 +5,7 @@ ghost use Rattle.columns.specs.Checks.{records_fault};
 
 use super::fields::{DUTIES, SPACING};
 use duty::{Header, Record, first_misfit};
-use fault::{Cause, Fault, Layer};
+use fault::{Cause, Fault};
 
 // Enough records, and each of the header's a duty record of its cycle.
 pub fn check_records(header: &Header, records: &[Record]) -> Result<(), Fault>
@@ -13,20 +13,10 @@ pub fn check_records(header: &Header, records: &[Record]) -> Result<(), Fault>
 {
     let duties = header.duties() as usize;
     if records.len() < duties {
-        return Err(Fault {
-            cause: Cause::RecordsShort,
-            line: 1,
-            column: DUTIES.first,
-            layer: Layer::Call,
-        });
+        return Err(Fault::of_call(Cause::RecordsShort).at(1, DUTIES.first));
     }
     match first_misfit(&records[0..duties], header.cycle()) {
-        Some(i) => Err(Fault {
-            cause: Cause::NotADuty,
-            line: i + 2,
-            column: SPACING.first,
-            layer: Layer::Call,
-        }),
+        Some(i) => Err(Fault::of_call(Cause::NotADuty).at(i + 2, SPACING.first)),
         None => Ok(()),
     }
 }

@@ -11,4 +11,4 @@ pub use fields::{
     BOARD, BOARDS, COST, CYCLE, DEADLINE, DUTIES, Field, HEADER_WIDTH, LETTER_COLUMN, SPACING,
 };
 pub use forms::Form;
-pub use numbers::{read_number, write_number};
+pub use numbers::{Unfit, read_number, write_number};

@@ -1,5 +1,5 @@
 // Numbers in columns: right-justified, blanks before the digits.
-ghost use Rattle.std.specs.Prelude.{◌≡◌, ◌+◌, ◌^◌, ◌<◌, ◌≤◌, ◌++◌, length, drop, if◌then◌else◌, decimal};
+ghost use Rattle.std.specs.Prelude.{◌≡◌, ◌+◌, ◌^◌, ◌<◌, ◌≤◌, ◌++◌, length, drop, if◌then◌else◌, decimal, is_ok};
 ghost use Rattle.columns.specs.Numerals.{further, plain, widest, number_in, justified, fits_in, BothWays};
 
 // The most columns of a number.
@@ -11,11 +11,11 @@ fn value(digits: &[u8]) -> Option<u32>
     ensures { result ≡ further 0 digits.now }
 {
     let mut n: u32 = 0;
-    for d in digits {
-        if *d < b'0' || *d > b'9' {
+    for digit in digits {
+        if !digit.is_ascii_digit() {
             return None;
         }
-        n = n * 10 + (*d - b'0') as u32;
+        n = n * 10 + (*digit - b'0') as u32;
     }
     Some(n)
 }
@@ -35,6 +35,7 @@ fn plain_value(digits: &[u8]) -> Option<u32>
 
 // The number in these columns: blanks, and then digits with no zero before further ones.
 // None where they hold something else, or are more than nine.
+#[tactic(auto, using(crate::proofs::Justified::both_ways))]
 pub fn read_number(columns: &[u8]) -> Option<u32>
     ensures answer { result ≡ number_in columns.now }
     ensures law { BothWays }
@@ -42,53 +43,52 @@ pub fn read_number(columns: &[u8]) -> Option<u32>
     if columns.len() > WIDEST {
         return None;
     }
-    let mut i = 0;
-    while i < columns.len() && columns[i] == b' ' {
-        i += 1;
+    for (i, byte) in columns.iter().enumerate() {
+        if *byte != b' ' {
+            return plain_value(&columns[i..]);
+        }
     }
-    plain_value(&columns[i..])
+    None
 }
 
 // How many digits a number has.
 fn digit_count(n: u32) -> usize
     ensures { result ≡ length (decimal n) }
 {
-    let mut count = 1;
-    let mut left = n;
-    while left >= 10 {
-        left /= 10;
-        count += 1;
+    match n.checked_ilog10() {
+        Some(power) => power as usize + 1,
+        None => 1,
     }
-    count
 }
 
-// Writes the number from its last column back to the first.
-fn put_digits(out: &mut [u8], width: usize, n: u32)
-    requires { (0 < width) × ((width ≤ length out.old) × (length (decimal n) ≤ width)) }
-    ensures { out.new ≡ justified width n ++ drop width out.old }
+// Fills the columns with the number, from the last column back, and with blanks before it.
+fn put_digits(columns: &mut [u8], n: u32)
+    requires { length (decimal n) ≤ length columns.old }
+    ensures { columns.new ≡ justified (length columns.old) n }
 {
-    let mut i = width - 1;
+    columns.fill(b' ');
     let mut left = n;
-    while left >= 10 {
-        out[i] = b'0' + (left % 10) as u8;
+    for i in (0..columns.len()).rev() {
+        columns[i] = b'0' + (left % 10) as u8;
         left /= 10;
-        i -= 1;
-    }
-    out[i] = b'0' + left as u8;
-    while i > 0 {
-        i -= 1;
-        out[i] = b' ';
+        if left == 0 {
+            return;
+        }
     }
 }
 
-// Writes the number into the first `width` columns; false, and nothing written, where it does not fit.
-pub fn write_number(out: &mut [u8], width: usize, n: u32) -> bool
-    ensures answer { result ≡ fits_in width n out.old }
-    ensures after { out.new ≡ (if result then justified width n ++ drop width out.old else out.old) }
+// A number with more digits than it has columns, or columns past the end of the output.
+#[derive(Clone, Copy, PartialEq, Eq, Debug)]
+pub struct Unfit;
+
+// Writes the number into the first `width` columns; nothing is written where it does not fit.
+pub fn write_number(out: &mut [u8], width: usize, n: u32) -> Result<(), Unfit>
+    ensures answer { is_ok result ≡ fits_in width n out.old }
+    ensures after { out.new ≡ (if is_ok result then justified width n ++ drop width out.old else out.old) }
 {
     if width > out.len() || digit_count(n) > width {
-        return false;
+        return Err(Unfit);
     }
-    put_digits(out, width, n);
-    true
+    put_digits(&mut out[..width], n);
+    Ok(())
 }
