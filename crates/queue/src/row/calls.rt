@@ -7,7 +7,7 @@ ghost use Rattle.queue.specs.Views.{due};
 
 use super::{PLACES, RowQueue};
 use crate::ready::ReadyQueue;
-use fault::{Cause, Fault, Layer};
+use fault::{Cause, Fault};
 
 // A place with its deadline.
 #[derive(Clone, Copy)]
@@ -32,12 +32,7 @@ pub fn check(place: usize) -> Result<(), Fault>
     ensures { result ≡ place_fault place }
 {
     if place >= PLACES {
-        return Err(Fault {
-            cause: Cause::NoSuchPlace,
-            line: 0,
-            column: 0,
-            layer: Layer::Call,
-        });
+        return Err(Fault::of_call(Cause::NoSuchPlace));
     }
     Ok(())
 }
@@ -85,9 +80,6 @@ impl ReadyQueue for RowQueue {
         for (place, slot) in self.slots.iter().enumerate() {
             best = better(best, place, *slot);
         }
-        match best {
-            Some(found) => Some(found.place),
-            None => None,
-        }
+        best.map(|found| found.place)
     }
 }
