@@ -1,4 +1,3 @@
 pub mod Lines
 pub mod Counting
 pub mod Shortage
-pub mod Sums

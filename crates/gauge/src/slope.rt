@@ -55,7 +55,12 @@ impl Drawing<'_, '_> {
     fn sum_at(&self, t: u32) -> u64
         ensures { result ≡ slope_sum self.now.list.duties.now self.now.list.cycle t }
     {
-        self.lines.iter().map(|above| above.height(t)).sum()
+        // `map` and `sum` in place of the loop were slower.
+        let mut sum = 0;
+        for above in self.lines {
+            sum += above.height(t);
+        }
+        sum
     }
 
     fn is_below(&self, t: u32) -> bool

@@ -1,27 +1,26 @@
-use Rattle.std.proofs.Common.{rules, arith}
-use Rattle.std.proofs.lemmas.Iterator.{YieldsList-from_slice, YieldsList-from_map}
-use Rattle.std.proofs.lemmas.Iterator.Adapters.{serves_from_places}
-use Rattle.duty.specs.declared.timings.Timing.{Timing}
+use Rattle.std.proofs.Common.{arith}
 use Rattle.duty.specs.Demand.{demand}
-use Rattle.gauge.specs.Demands.{demands_fit}
+use Rattle.gauge.specs.Totals.{sum_more, sum_all}
 use Rattle.gauge.specs.Fairness.{fair_list, spacing_at}
-use Rattle.gauge.proofs.Sums.{chain_fits, chain_total}
+use Rattle.gauge.specs.Demands.{demands_fit}
 use Rattle.gauge.proofs.fair_list.FairList.demand_upto.Goals as goal
 
-pub sum-requires-clause-can : goal.sum-requires-clause-can
-sum-requires-clause-can c =
+pub demand_of-sum-requires : goal.demand_of-sum-requires
+demand_of-sum-requires c =
     let l = c.args.self.now in
-    (tt, serves_from_places (YieldsList-from_slice l.duties.now cc) (λ x q k. search rules) (λ x k within e. let some = spacing_at l.duties.now k x.now within (fair_list l.duties.now l.cycle l.judged).each_timely in search rules))
+    spacing_at _ _ _ c.loop-duty-test.true (fair_list l.duties.now l.cycle l.judged).each_timely
 
-pub sum-requires-clause-fits : goal.sum-requires-clause-fits
-sum-requires-clause-fits c =
-    let l = c.args.self.now in
-    let w = fair_list l.duties.now l.cycle l.judged in
-    let at = λ (d : Timing). demand d c.args.t in
-    chain_fits at l.duties.now (YieldsList-from_map _ at (YieldsList-from_slice l.duties.now cc) c.map.ensures.closure (λ x r q k. search rules)) (demands_fit l.duties.now c.args.t w.few w.each_timely (omega arith))
+pub loop-duty-preserved : goal.loop-duty-preserved
+loop-duty-preserved c =
+    sum_more (λ d. demand d c.args.t) c.args.self.now.duties.now c.loop-duty.duty-index c.loop-duty.sum c.loop-duty.invariant _ c.demand_of-sum.result c.loop-duty-test.true c.demand_of-sum.ensures
 
 pub returns : goal.returns
 returns c =
+    sum_all (λ d. demand d c.args.t) c.args.self.now.duties.now c.loop-duty.duty-index c.loop-duty.sum c.loop-duty.invariant c.loop-duty-test.false
+
+pub overflow_add-sum : goal.overflow_add-sum
+overflow_add-sum c =
     let l = c.args.self.now in
-    let at = λ (d : Timing). demand d c.args.t in
-    chain_total at l.duties.now (YieldsList-from_map _ at (YieldsList-from_slice l.duties.now cc) c.map.ensures.closure (λ x r q k. search rules)) c.sum.ensures.ran
+    let w = fair_list l.duties.now l.cycle l.judged in
+    let more = sum_more (λ d. demand d c.args.t) l.duties.now c.loop-duty.duty-index c.loop-duty.sum c.loop-duty.invariant _ c.demand_of-sum.result c.loop-duty-test.true c.demand_of-sum.ensures in
+    omega (arith, more, demands_fit l.duties.now c.args.t w.few w.each_timely (omega arith))

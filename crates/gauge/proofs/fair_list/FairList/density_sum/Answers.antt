@@ -1,24 +1,26 @@
-use Rattle.std.proofs.Common.{rules, arith}
-use Rattle.std.proofs.lemmas.Iterator.{YieldsList-from_slice, YieldsList-from_map}
-use Rattle.std.proofs.lemmas.Iterator.Adapters.{serves_from_places}
+use Rattle.std.proofs.Common.{arith}
 use Rattle.gauge.specs.Density.{density}
+use Rattle.gauge.specs.Totals.{sum_more, sum_all}
+use Rattle.gauge.specs.Fairness.{fair_list, deadline_at, all_timed}
 use Rattle.gauge.specs.Dense.{densities_most}
-use Rattle.gauge.specs.Fairness.{fair_list, all_timed, deadline_at}
-use Rattle.gauge.proofs.Sums.{chain_fits, chain_total}
 use Rattle.gauge.proofs.fair_list.FairList.density_sum.Goals as goal
 
-pub sum-requires-clause-can : goal.sum-requires-clause-can
-sum-requires-clause-can c =
+pub density_of-sum-requires : goal.density_of-sum-requires
+density_of-sum-requires c =
     let l = c.args.self.now in
-    (tt, serves_from_places (YieldsList-from_slice l.duties.now cc) (λ x q k. search rules) (λ x k within e. let some = deadline_at l.duties.now k x.now within (fair_list l.duties.now l.cycle l.judged).each_timely in search rules))
+    deadline_at _ _ _ c.loop-duty-test.true (fair_list l.duties.now l.cycle l.judged).each_timely
 
-pub sum-requires-clause-fits : goal.sum-requires-clause-fits
-sum-requires-clause-fits c =
-    let l = c.args.self.now in
-    let w = fair_list l.duties.now l.cycle l.judged in
-    chain_fits density l.duties.now (YieldsList-from_map _ density (YieldsList-from_slice l.duties.now cc) c.map.ensures.closure (λ x r q k. search rules)) (omega (arith, densities_most l.duties.now (all_timed l.duties.now w.each_timely), w.few))
+pub loop-duty-preserved : goal.loop-duty-preserved
+loop-duty-preserved c =
+    sum_more density c.args.self.now.duties.now c.loop-duty.duty-index c.loop-duty.sum c.loop-duty.invariant _ c.density_of-sum.result c.loop-duty-test.true c.density_of-sum.ensures
 
 pub returns : goal.returns
 returns c =
+    sum_all density c.args.self.now.duties.now c.loop-duty.duty-index c.loop-duty.sum c.loop-duty.invariant c.loop-duty-test.false
+
+pub overflow_add-sum : goal.overflow_add-sum
+overflow_add-sum c =
     let l = c.args.self.now in
-    chain_total density l.duties.now (YieldsList-from_map _ density (YieldsList-from_slice l.duties.now cc) c.map.ensures.closure (λ x r q k. search rules)) c.sum.ensures.ran
+    let w = fair_list l.duties.now l.cycle l.judged in
+    let more = sum_more density l.duties.now c.loop-duty.duty-index c.loop-duty.sum c.loop-duty.invariant _ c.density_of-sum.result c.loop-duty-test.true c.density_of-sum.ensures in
+    omega (arith, more, densities_most l.duties.now (all_timed l.duties.now w.each_timely), w.few)
