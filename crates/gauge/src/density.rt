@@ -26,7 +26,7 @@ impl FairList<'_> {
     fn density_sum(&self) -> u64
         ensures { result ≡ total density self.now.duties.now }
     {
-        // `map` and `sum` in place of the loop were slower.
+        // A chain of `map` and `sum` was slower.
         let mut sum = 0;
         for duty in self.duties {
             sum += density_of(duty);

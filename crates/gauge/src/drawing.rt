@@ -7,7 +7,7 @@ use crate::fair_list::FairList;
 // The line above a duty's demand, times the cycle: `step` at the deadline, and `rate` more a tick.
 #[derive(Clone, Copy)]
 pub(crate) struct Line {
-    pub(crate) deadline: u32,
+    pub(crate) deadline: u64,
     pub(crate) step: u64,
     pub(crate) rate: u64,
 }

@@ -30,7 +30,7 @@ impl FairList<'_> {
     fn demand_upto(&self, t: u32) -> u64
         ensures { result ≡ demands self.now.duties.now t }
     {
-        // `map` and `sum` in place of the loop were slower.
+        // A chain of `map` and `sum` was slower.
         let mut sum = 0;
         for duty in self.duties {
             sum += demand_of(duty, t);

@@ -32,21 +32,21 @@ impl Line {
     {
         let cost = duty.cost as u64;
         Line {
-            deadline: duty.deadline,
+            deadline: duty.deadline as u64,
             step: cost * cycle as u64,
             rate: cost * (cycle / duty.spacing) as u64,
         }
     }
 
     // Its height at t.
-    fn height(&self, t: u32) -> u64
+    fn height(&self, t: u64) -> u64
         requires { height_at t self.now < 2 ^ 64 }
         ensures { result ≡ height_at t self.now }
     {
         if t < self.deadline {
             return 0;
         }
-        self.step + self.rate * (t - self.deadline) as u64
+        self.step + self.rate * (t - self.deadline)
     }
 }
 
@@ -55,12 +55,8 @@ impl Drawing<'_, '_> {
     fn sum_at(&self, t: u32) -> u64
         ensures { result ≡ slope_sum self.now.list.duties.now self.now.list.cycle t }
     {
-        // `map` and `sum` in place of the loop were slower.
-        let mut sum = 0;
-        for above in self.lines {
-            sum += above.height(t);
-        }
-        sum
+        let t = t as u64;
+        self.lines.iter().map(|above| above.height(t)).sum()
     }
 
     fn is_below(&self, t: u32) -> bool
