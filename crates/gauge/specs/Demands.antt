@@ -7,7 +7,7 @@ use Rattle.std.proofs.ByRecursion.{All-weaker}
 use Rattle.std.proofs.lemmas.Bool.{cond-true, cond-false, lt-ltb, le-ltb, cases_lt}
 use Rattle.duty.specs.declared.timings.Timing.{Timing}
 use Rattle.duty.specs.Demand.{demand, demands}
-use Rattle.duty.specs.Limits.{longest, most_duties}
+use Rattle.duty.specs.Limits.{most_duties}
 use Rattle.duty.specs.Timely.{timely}
 use Rattle.gauge.specs.Totals.{total_le, total_most}
 use Rattle.gauge.specs.Each.{each}
@@ -113,10 +113,10 @@ demands_grow ds s t le = total_le (λ d. demand d s) (λ d. demand d t) ds (ever
     every [] = tt
     every (d ∷ ds) = (demand_grows d s t le, every ds)
 
--- a few duties ask for little in a cycle
-pub demands_fit : (ds : List Timing) (t : ℕ) → length ds ≤ most_duties → each timely ds ≡ true → t ≤ longest → demands ds t < 2 ^ 64
+-- a few duties ask for little
+pub demands_fit : (ds : List Timing) (t : ℕ) → length ds ≤ most_duties → each timely ds ≡ true → t < 2 ^ 32 → demands ds t < 2 ^ 64
 demands_fit ds t few e near =
     let alone = All-weaker Timed (λ d. demand d t ≤ t) (λ d k. demand_alone d t k) ds (all_timed ds e) in
     let most : demands ds t ≤ length ds * t = total_most (λ d. demand d t) t ds alone in
-    let little : length ds * t ≤ most_duties * longest = mul-le-mul few near in
+    let little : length ds * t ≤ most_duties * 2 ^ 32 = mul-le-mul {m₂ = 2 ^ 32} few (omega arith) in
     omega (arith, most, little)

@@ -1,5 +1,6 @@
 pub mod Each
 pub mod Fair
+pub mod Judged
 pub mod Density
 pub mod Slope
 pub mod Lines

@@ -1,7 +1,7 @@
 -- A duty's line as the slope gauge keeps it, so that each instant costs no division.
 use Rattle.std.specs.Prelude.{ℕ, ◌+◌, ◌-◌, ◌*◌, cond, nat_lt}
 use Rattle.duty.specs.declared.timings.Timing.{Timing}
-use Rattle.gauge.specs.declared.slope.Line.{Line}
+use Rattle.gauge.specs.declared.drawing.Line.{Line}
 use Rattle.gauge.specs.Slope.{rate}
 
 -- the line of a duty

@@ -15,6 +15,7 @@ impl Gauge for Letter {
 
     ghost bounded = { letter_bounded };
 
+    #[tactic(auto, using(crate::specs::LettersLemmas::common_ground))]
     fn passes(&self, duties: &[Timing], cycle: u32) -> bool
         ensures answer { result ≡ letter_passed self.now duties.now cycle }
         ensures shared { CommonGround }

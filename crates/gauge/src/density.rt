@@ -1,13 +1,10 @@
 // The density gauge (density test).
-ghost use Rattle.std.specs.Prelude.{◌≡◌, ◌≤◌, true, length};
-ghost use Rattle.duty.specs.Limits.{most_duties};
+ghost use Rattle.std.specs.Prelude.{◌≡◌, ◌≤◌};
 ghost use Rattle.duty.specs.Sums.{total};
-ghost use Rattle.duty.specs.Timely.{timely};
 ghost use Rattle.gauge.specs.Density.{density, density_passed, DensitiesRoundUp};
-ghost use Rattle.gauge.specs.Each.{each};
 ghost use Rattle.gauge.specs.Dense.{density_bounded};
 
-use crate::fair::is_fair;
+use crate::fair_list::FairList;
 use crate::gauges::Gauge;
 use duty::Timing;
 
@@ -22,20 +19,20 @@ fn density_of(duty: &Timing) -> u64
     requires { 1 ≤ duty.now.deadline }
     ensures { result ≡ density duty.now }
 {
-    let deadline = duty.deadline as u64;
-    (duty.cost as u64 * WHOLE + (deadline - 1)) / deadline
+    (duty.cost as u64 * WHOLE).div_ceil(duty.deadline as u64)
 }
 
-fn density_sum(duties: &[Timing]) -> u64
-    requires few { length duties.now ≤ most_duties }
-    requires timed { each timely duties.now ≡ true }
-    ensures { result ≡ total density duties.now }
-{
-    let mut sum = 0;
-    for duty in duties {
-        sum += density_of(duty);
+impl FairList<'_> {
+    fn density_sum(&self) -> u64
+        ensures { result ≡ total density self.now.duties.now }
+    {
+        // A chain of `map` and `sum` was slower.
+        let mut sum = 0;
+        for duty in self.duties {
+            sum += density_of(duty);
+        }
+        sum
     }
-    sum
 }
 
 impl Gauge for Density {
@@ -43,10 +40,11 @@ impl Gauge for Density {
 
     ghost bounded = { λ g. density_bounded };
 
+    #[tactic(auto, using(crate::specs::Dense::densities_round_up))]
     fn passes(&self, duties: &[Timing], cycle: u32) -> bool
         ensures answer { result ≡ density_passed duties.now cycle }
         ensures rounding { DensitiesRoundUp }
     {
-        is_fair(duties, cycle) && density_sum(duties) <= WHOLE
+        FairList::of(duties, cycle).is_some_and(|list| list.density_sum() <= WHOLE)
     }
 }

@@ -1,15 +1,13 @@
 // The exact gauge (processor demand criterion).
-ghost use Rattle.std.specs.Prelude.{◌≡◌, ◌^◌, ◌<◌, ◌≤◌, true};
+ghost use Rattle.std.specs.Prelude.{◌≡◌, ◌≤◌};
 ghost use Rattle.duty.specs.Demand.{demand, demands};
-ghost use Rattle.duty.specs.Timely.{timely};
-ghost use Rattle.gauge.specs.Each.{each, each_to};
+ghost use Rattle.gauge.specs.Each.{each_to};
 ghost use Rattle.gauge.specs.Exact.{met_at, exact_passed, CycleDecides, ExactDecides};
-ghost use Rattle.gauge.specs.Fair.{fair};
 ghost use Rattle.gauge.specs.Shortage.{RefusedListsLeaveAJobShort};
 ghost use Rattle.gauge.specs.Shown.{shown};
 ghost use Rattle.gauge.specs.Cycles.{exact_decides};
 
-use crate::fair::is_fair;
+use crate::fair_list::FairList;
 use crate::gauges::Gauge;
 use duty::{LONGEST, Timing};
 
@@ -27,34 +25,35 @@ fn demand_of(duty: &Timing, t: u32) -> u64
     duty.cost as u64 * (1 + ((t - duty.deadline) / duty.spacing) as u64)
 }
 
-fn demand_upto(duties: &[Timing], t: u32) -> u64
-    requires timed { each timely duties.now ≡ true }
-    requires fits { demands duties.now t < 2 ^ 64 }
-    ensures { result ≡ demands duties.now t }
-{
-    let mut sum = 0;
-    for duty in duties {
-        sum += demand_of(duty, t);
+impl FairList<'_> {
+    // The demand up to t.
+    fn demand_upto(&self, t: u32) -> u64
+        ensures { result ≡ demands self.now.duties.now t }
+    {
+        // A chain of `map` and `sum` was slower.
+        let mut sum = 0;
+        for duty in self.duties {
+            sum += demand_of(duty, t);
+        }
+        sum
     }
-    sum
-}
 
-// Whether the demand up to t is at most t, for each t from 1 to the cycle. It goes down from the
-// cycle: where the demand up to t is h, it is at most h from h to t, so h - 1 is next.
-fn scan(duties: &[Timing], cycle: u32) -> bool
-    requires { fair duties.now cycle ≡ true }
-    ensures { result ≡ each_to (met_at duties.now) cycle }
-{
-    let mut t = cycle;
-    loop {
-        let h = demand_upto(duties, t);
-        if h > t as u64 {
-            return false;
+    // Whether the demand up to t is at most t, for each t from 1 to the cycle. It goes down from the
+    // cycle: where the demand up to t is h, it is at most h from h to t, so h - 1 is next.
+    fn scan(&self) -> bool
+        ensures { result ≡ each_to (met_at self.now.duties.now) self.now.cycle }
+    {
+        let mut t = self.cycle;
+        loop {
+            let h = self.demand_upto(t);
+            if h > t as u64 {
+                return false;
+            }
+            if h == 0 {
+                return true;
+            }
+            t = h as u32 - 1;
         }
-        if h == 0 {
-            return true;
-        }
-        t = h as u32 - 1;
     }
 }
 
@@ -63,10 +62,10 @@ impl Exact {
     pub fn demand_at(&self, duties: &[Timing], cycle: u32, t: u32) -> Option<u64>
         ensures { result ≡ shown duties.now cycle t (demands duties.now t) }
     {
-        if !is_fair(duties, cycle) || t > LONGEST {
-            return None;
+        match FairList::of(duties, cycle) {
+            Some(list) if t <= LONGEST => Some(list.demand_upto(t)),
+            _ => None,
         }
-        Some(demand_upto(duties, t))
     }
 }
 
@@ -81,6 +80,6 @@ impl Gauge for Exact {
         ensures decides { ExactDecides }
         ensures shortage { RefusedListsLeaveAJobShort }
     {
-        is_fair(duties, cycle) && scan(duties, cycle)
+        FairList::of(duties, cycle).is_some_and(|list| list.scan())
     }
 }

@@ -3,8 +3,10 @@
 
 mod by_letter;
 mod density;
+mod drawing;
 mod exact;
 mod fair;
+mod fair_list;
 mod gauges;
 mod slope;
 #[cfg(test)]
