@@ -5,10 +5,11 @@ use Rattle.std.specs.List.Sorted.{IsPermutation}
 use Rattle.std.proofs.ByRecursion.{All-push, All-weaker, all_shuffled}
 use Rattle.std.proofs.lemmas.List.{drop-drop, drop-set-lt, take_more_set, length-append, length-take-le, map-append}
 use Rattle.std.proofs.lemmas.List.Sorted.{length_permutation, IsPermutation-cons, IsPermutation-refl, IsPermutation-trans}
+use Rattle.heap.specs.declared.entry.Entry.{Ghosts}
 use Rattle.heap.specs.declared.binary.Heap.{Heap}
 use Rattle.heap.specs.Order.{Heaped, Least}
 use Rattle.heap.specs.Held.{held}
-use Rattle.heap.specs.Calls.{Removed, Moved}
+use Rattle.heap.specs.Calls.{Removed, Moved, Kept}
 use Rattle.heap.specs.Sorted.{Ascending, keys_in_order}
 use Rattle.heap.specs.Leaving.{Leaves, InOrder}
 
@@ -35,11 +36,11 @@ ascending_push : {X : Type 0} (upto : X → X → Bool) (gone : List X) (x : X) 
 ascending_push upto [] x up h = (tt, tt)
 ascending_push upto (y ∷ gone) x up h = (All-push (λ z. upto y z ≡ true) gone x up.0 h.0, ascending_push upto gone x up.1 h.1)
 
-module _ {X : Type 0} (before : Heap X) (start : List X) where
+module _ {X : Type 0} {g : Ghosts X} (before : Heap X g) (start : List X) where
   pub none_moved : Moved before start 0 before start
-  none_moved = record { entries = IsPermutation-refl (held before); rest = refl; same_room = refl; beyond = refl }
+  none_moved = record { entries = IsPermutation-refl (held before); rest = refl }
 
-  module _ (n : ℕ) (now' next : Heap X) (out : List X) (moved : Moved before start n now' out) where
+  module _ (n : ℕ) (now' next : Heap X g) (out : List X) (moved : Moved before start n now' out) where
     -- as many have left as are held no more
     pub moved_count : n ≤ length out → length (held now') + n ≡ length (held before)
     moved_count fits = omega (arith, length_permutation _ _ moved.entries, length-append (take n out) (held now'), length-take-le n out fits)
@@ -49,17 +50,22 @@ module _ {X : Type 0} (before : Heap X) (start : List X) where
       entries = subst (IsPermutation (held before)) (one_more (take n out) (held next) x ∙ ap (λ l. l ++ held next) (sym (take_more_set out n x fits)))
           (IsPermutation-trans _ _ _ moved.entries (after_front (take n out) _ _ gone.others));
       rest = drop-set-lt (n + 1) out n x (omega arith) ∙ drop_later out start n (n + 1) (omega arith) moved.rest;
-      same_room = gone.same_room ∙ moved.same_room;
-      beyond = drop_later _ _ (length (held now')) (length (held before)) (omega (arith, moved_count (omega arith))) gone.beyond ∙ moved.beyond;
     }
 
     pub still_moved : Removed 0 now' None next → Moved before start n next out
     still_moved gone = record {
       entries = subst (λ l. IsPermutation (held before) (take n out ++ l)) (sym gone.others.entries) moved.entries;
       rest = moved.rest;
-      same_room = gone.same_room ∙ moved.same_room;
-      beyond = ap (drop (length (held before))) gone.others.slots ∙ moved.beyond;
     }
+
+-- what one call keeps and the next keeps, both keep
+pub kept_on : {X : Type 0} {g : Ghosts X} (before now' next : Heap X g) (m n : ℕ) → m ≤ n → Kept n before now' → Kept m now' next → Kept n before next
+kept_on before now' next m n le was more = record {
+  named = more.named ∙ was.named;
+  same_room = more.same_room ∙ was.same_room;
+  beyond = drop_later _ _ m n le more.beyond ∙ was.beyond;
+  heaped = λ h. more.heaped (was.heaped h);
+}
 
 module _ {X K : Type 0} (key : X → K) (upto : X → X → Bool) where
   pub none_gone : (xs : List X) → Heaped upto xs → InOrder key upto xs [] xs

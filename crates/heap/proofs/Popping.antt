@@ -3,6 +3,7 @@ use Rattle.std.proofs.Common.{◌≡◌, Bool, true, false, List, [], ◌∷◌,
 use Rattle.std.specs.List.{slice_get}
 use Rattle.std.specs.List.Sorted.{IsPermutation}
 use Rattle.std.proofs.ByRecursion.{All-from_get_or, all_shuffled}
+use Rattle.heap.specs.declared.entry.Entry.{Ghosts}
 use Rattle.heap.specs.declared.binary.Heap.{Heap}
 use Rattle.heap.specs.Order.{Heaped, Least}
 use Rattle.heap.specs.Held.{held}
@@ -21,12 +22,12 @@ module _ {X : Type 0} (upto : X → X → Bool) (total : (x y : X) → upto x y 
   answer_least xs r e h = subst (λ o. IfSome o (λ x. Least upto x xs)) (sym e) (top_least xs h)
 
   module _ {K : Type 0} (key : X → K) (level : (x y : X) → upto x y ≡ true → upto y x ≡ true → key x ≡ key y) where
-    turn : (before after : Heap X) (r : Option X) → MatchOption r (Unchanged before after) (λ x. IsPermutation (held before) (x ∷ held after)) → IfSome r (λ x. Least upto x (held before)) → keys_in_order key upto (held before) ≡ leads key r (keys_in_order key upto (held after))
+    turn : {g : Ghosts X} (before after : Heap X g) (r : Option X) → MatchOption r (Unchanged before after) (λ x. IsPermutation (held before) (x ∷ held after)) → IfSome r (λ x. Least upto x (held before)) → keys_in_order key upto (held before) ≡ leads key r (keys_in_order key upto (held after))
     turn before after None same h = ap (keys_in_order key upto) (sym same.entries)
     turn before after (Some x) w h = keys_least_first upto total chain key level (held before) (held after) x w (all_shuffled (λ y. upto x y ≡ true) _ _ w h).1
 
     -- the entry at the top leaves
-    pub leaves : (before after : Heap X) (r : Option X) → Removed 0 before r after → (Heaped upto (held before) → Heaped upto (held after)) → Heaped upto (held before) → Leaves key upto (held before) r (held after)
+    pub leaves : {g : Ghosts X} (before after : Heap X g) (r : Option X) → Removed 0 before r after → (Heaped upto (held before) → Heaped upto (held after)) → Heaped upto (held before) → Leaves key upto (held before) r (held after)
     leaves before after r gone rest h =
         let first = answer_least (held before) r gone.which h in
         record { least = first; heaped = rest h; in_turn = turn before after r gone.others first }

@@ -22,10 +22,7 @@ fn lesser_child<T: Entry>(s: &[T], j: usize) -> usize
 {
     let left = j * 2 + 1;
     let right = left + 1;
-    if right == s.len() {
-        return left;
-    }
-    if in_order(s, left, right) {
+    if right == s.len() || in_order(s, left, right) {
         left
     } else {
         right
@@ -89,5 +86,5 @@ pub(crate) fn move_out<T: Entry>(s: &mut [T], i: usize)
 {
     let last = s.len() - 1;
     s.swap(i, last);
-    settle(&mut s[0..last], i);
+    settle(&mut s[..last], i);
 }

@@ -16,7 +16,7 @@ impl Entry for u32 {
     ghost level = { Prim.search rules };
 
     fn precedes(&self, other: &u32) -> bool {
-        *self <= *other
+        self <= other
     }
 }
 
@@ -24,8 +24,8 @@ impl Entry for u32 {
 fn a_full_heap_refuses(rt: HostRuntime) {
     let mut slots = [0u32; 2];
     let mut heap = Heap::new(&mut slots);
-    assert!(rt; heap.push(5) && heap.push(3));
-    assert!(rt; !heap.push(1));
+    assert!(rt; heap.push(5).is_ok() && heap.push(3).is_ok());
+    assert_eq!(rt; heap.push(1), Err(1));
     assert_eq!(rt; heap.len(), heap.capacity());
     assert_eq!(rt; heap.peek(), Some(3));
 }
@@ -35,7 +35,7 @@ fn entries_leave_in_ascending_order(rt: HostRuntime) {
     let mut slots = [0u32; 8];
     let mut heap = Heap::new(&mut slots);
     for x in [4u32, 2, 7, 2, 9, 1] {
-        assert!(rt; heap.push(x));
+        assert!(rt; heap.push(x).is_ok());
     }
     let mut out = [0u32; 5];
     assert_eq!(rt; heap.pop_into(&mut out), 5);
@@ -58,10 +58,10 @@ fn an_entry_is_removed_from_the_middle(rt: HostRuntime) {
 fn a_heap_is_resumed(rt: HostRuntime) {
     let mut slots = [0u32; 3];
     let mut heap = Heap::new(&mut slots);
-    assert!(rt; heap.push(6) && heap.push(2));
+    assert!(rt; heap.push(6).is_ok() && heap.push(2).is_ok());
     let held = heap.len();
     let mut again = Heap::resume(&mut slots, held);
-    assert!(rt; again.push(4));
+    assert!(rt; again.push(4).is_ok());
     assert_eq!(rt; again.pop(), Some(2));
     again.clear();
     assert_eq!(rt; again.pop(), None);

@@ -1,13 +1,14 @@
 -- What stays sound, and what the row is, when an entry leaves and when one comes.
-use Rattle.std.proofs.Common.{◌≡◌, ℕ, ◌<◌, ◌≤◌, List, ◌∷◌, take, set, Some, None, Option, sym, refl, ap, ◌∙◌, subst, arith}
-use Rattle.std.specs.List.{slice_get}
+use Rattle.std.proofs.Common.{◌≡◌, ℕ, ◌<◌, ◌≤◌, List, ◌∷◌, take, set, Some, None, Option, ◌==◌, sym, refl, ap, ◌∙◌, subst, arith}
+use Rattle.std.specs.List.{position}
 use Rattle.std.specs.List.Sorted.{IsPermutation}
+use Rattle.heap.specs.declared.entry.Entry.{Ghosts}
 use Rattle.heap.specs.declared.binary.Heap.{Heap}
 use Rattle.heap.specs.Calls.{Removed}
 use Rattle.heap.specs.Held.{held}
 use Rattle.heap.specs.Order.{Heaped}
 use Rattle.queue.specs.Places.{places}
-use Rattle.heap_queue.specs.Entries.{position, row, tally, Sound, Without}
+use Rattle.heap_queue.specs.Entries.{row, tally, Sound, Without}
 use Rattle.heap_queue.specs.Order.{sooner}
 use Rattle.heap_queue.specs.declared.timed.Timed.{Timed}
 use Rattle.heap_queue.proofs.Finding.{found, absent}
@@ -30,21 +31,21 @@ module _ (xs ys : List Timed) (e : Timed) (s : IsPermutation xs (e ∷ ys)) (was
   out_row = row_set xs ys e.place None (deadline_none e.place ys out_gone) (λ k n.
       sym (deadline_other e ys k (λ h. n (sym h))) ∙ deadline_shuffled k xs (e ∷ ys) s (was.single k))
 
--- there was no entry to leave
-none_row : (xs : List Timed) (p : ℕ) → tally p xs ≡ 0 → row xs ≡ set (row xs) p None
-none_row xs p h = row_set xs xs p None (deadline_none p xs h) (λ k n. refl)
+-- there was no entry of the place p to leave
+pub none_leaves : (xs : List Timed) (p : ℕ) → position (λ e. e.place == p) xs ≡ None → Sound xs → Without p xs xs
+none_leaves xs p is was =
+    let gone = absent p xs is in
+    record { sound = was; gone = gone; after = row_set xs xs p None (deadline_none p xs gone) (λ k n. refl) }
 
--- the entry of the place p was looked for, and taken out where it was found
-pub leaves : (before after : Heap Timed) (p i : ℕ) (r : Option Timed) → i ≡ position p (held before) → Removed i before r after → (Heaped sooner (held before) → Heaped sooner (held after)) → Sound (held before) → Without p (held before) (held after)
-leaves before after p i None is out keeps was =
-    let gone = absent (held before) p (out.which ∙ ap (slice_get (held before)) is) in
-    subst (Without p (held before)) (sym out.others.entries) (record { sound = was; gone = gone; after = none_row (held before) p gone })
-leaves before after p i (Some e) is out keeps was =
-    let of_p : e.place ≡ p = found (held before) p e (out.which ∙ ap (slice_get (held before)) is) in
+-- the entry of the place p was found at i, and taken out
+pub one_leaves : {g : Ghosts Timed} (before after : Heap Timed g) (p i : ℕ) (r : Option Timed) → position (λ e. e.place == p) (held before) ≡ Some i → Removed i before r after → (Heaped sooner (held before) → Heaped sooner (held after)) → Sound (held before) → Without p (held before) (held after)
+one_leaves before after p i r is out keeps was =
+    let (e, at, of_p) = found p (held before) i is in
+    let others : IsPermutation (held before) (e ∷ held after) = rw (out.which ∙ at) at out.others in
     subst (λ (q : ℕ). Without q (held before) (held after)) of_p (record {
-      sound = out_sound (held before) (held after) e out.others was (keeps was.ordered);
-      gone = out_gone (held before) (held after) e out.others was;
-      after = out_row (held before) (held after) e out.others was;
+      sound = out_sound (held before) (held after) e others was (keeps was.ordered);
+      gone = out_gone (held before) (held after) e others was;
+      after = out_row (held before) (held after) e others was;
     })
 
 -- the entry e, of a place that has nothing, comes to xs, and they become ys

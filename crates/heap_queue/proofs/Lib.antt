@@ -1,5 +1,4 @@
 pub mod Crowding
 pub mod Finding
 pub mod Changing
-pub mod Owning
 pub mod Topmost

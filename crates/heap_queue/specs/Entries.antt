@@ -1,5 +1,5 @@
 -- What entries say of each place.
-use Rattle.std.specs.Prelude.{◌≡◌, ℕ, zero, suc, ◌+◌, ◌≤◌, cond, List, [], ◌∷◌, Some, None, Option, ◌==◌, slice_set}
+use Rattle.std.specs.Prelude.{◌≡◌, ℕ, zero, suc, ◌+◌, ◌≤◌, cond, List, [], ◌∷◌, Some, None, Option, ◌==◌, count_by, slice_set}
 use Rattle.heap.specs.Order.{Heaped}
 use Rattle.queue.specs.Places.{places}
 use Rattle.heap_queue.specs.Order.{sooner}
@@ -21,13 +21,7 @@ row es = deadlines_from places 0 es
 
 -- how many entries are of a place
 abbrev pub tally : ℕ → List Timed → ℕ
-tally p [] = 0
-tally p (e ∷ es) = cond (e.place == p) 1 0 + tally p es
-
--- where the first entry of a place stands, or how many entries there are
-abbrev pub position : ℕ → List Timed → ℕ
-position p [] = 0
-position p (e ∷ es) = cond (e.place == p) 0 (position p es + 1)
+tally p es = count_by (λ e. e.place == p) es
 
 -- a heap in which each place stands at most once, and none that there is not
 pub record Sound (es : List Timed) : Type 0 where

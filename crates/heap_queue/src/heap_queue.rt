@@ -1,15 +1,14 @@
 // A heap of deadlines.
-ghost use Rattle.std.specs.Prelude.{◌≡◌, ℕ, ◌≤◌, length, take};
+ghost use Rattle.std.specs.Prelude.{◌≤◌, length, take};
+ghost use Rattle.std.proofs.Props.{props};
 ghost use Rattle.queue.specs.Places.{places};
-ghost use Rattle.heap.specs.Order.{Heaped};
-ghost use Rattle.heap_queue.specs.Entries.{tally};
-ghost use Rattle.heap_queue.specs.Order.{sooner};
+ghost use Rattle.heap_queue.specs.Entries.{Sound};
 
 use crate::timed::Timed;
 
 mod calls;
 
-// The first `len` entries of the memory are a heap. Always: the memory has an entry for every place,
+// The first `len` entries of the memory are a heap. The memory has an entry for every place,
 // and in the heap each place stands at most once, and none that there is not.
 #[derive(Drop)]
 pub struct HeapQueue {
@@ -17,7 +16,5 @@ pub struct HeapQueue {
     len: usize,
     ghost wide: { places ≤ length memory.items },
     ghost within: { len ≤ length memory.items },
-    ghost ordered: { Heaped sooner (take len memory.items) },
-    ghost single: { (p : ℕ) → tally p (take len memory.items) ≤ 1 },
-    ghost low: { (p : ℕ) → places ≤ p → tally p (take len memory.items) ≡ 0 },
+    ghost sound: { Sound (take len memory.items) } by { Prim.hlevel props },
 }

@@ -1,33 +1,31 @@
-// The heap in the first slots of the memory.
-ghost use Rattle.std.specs.Prelude.{◌≡◌, ◌<◌, ◌≤◌, length, take, Some, None, slice_set};
-ghost use Rattle.heap.specs.Held.{held, room};
+// The heap in the first slots of the memory. These are functions over the slots, since a proof no longer knows what the queue's `Vec`
+// holds once a `Heap` has borrowed from it.
+ghost use Rattle.std.specs.Prelude.{◌≡◌, ◌<◌, ◌≤◌, length, take, Some, None, ◌==◌, slice_set};
+ghost use Rattle.std.specs.List.{position};
+ghost use Rattle.heap.specs.Held.{held};
+ghost use Rattle.heap.specs.Calls.{Kept};
 ghost use Rattle.queue.specs.Places.{places};
-ghost use Rattle.heap_queue.specs.Entries.{position, row, Sound, Without};
+ghost use Rattle.heap_queue.specs.Entries.{row, Sound, Without};
 
 use crate::timed::Timed;
 use heap::Heap;
 
-// Where the entry of the place stands, or how many entries there are where it stands nowhere.
-fn find(entries: &[Timed], place: usize) -> usize
-    ensures { result ≡ position place entries.now }
+// Where the entry of the place stands, if there is one.
+fn find(entries: &[Timed], place: usize) -> Option<usize>
+    ensures { result ≡ position (λ e. e.place == place) entries.now }
 {
-    for (i, entry) in entries.iter().enumerate() {
-        if entry.place == place {
-            return i;
-        }
-    }
-    entries.len()
+    entries.iter().position(|entry| entry.place == place)
 }
 
 // Takes out the entry of the place, if there is one.
 fn take_out(heap: &mut Heap<'_, Timed>, place: usize)
     requires { Sound (held heap.old) }
     ensures without { Without place (held heap.old) (held heap.new) }
-    ensures same_room { room heap.new ≡ room heap.old }
-    ensures named { heap.new.slots.ghost_name ≡ heap.old.slots.ghost_name }
+    ensures kept { Kept (length (held heap.old)) heap.old heap.new }
 {
-    let at = find(heap.entries(), place);
-    heap.remove(at);
+    if let Some(at) = find(heap.entries(), place) {
+        heap.remove(at);
+    }
 }
 
 // Takes the place out of the heap in the first n slots, and answers how many are held then.
@@ -53,6 +51,6 @@ pub(crate) fn fill_place(slots: &mut [Timed], n: usize, entry: Timed) -> usize
 {
     let mut heap = Heap::resume(slots, n);
     take_out(&mut heap, entry.place);
-    heap.push(entry);
+    let _ = heap.push(entry);
     heap.len()
 }

@@ -32,7 +32,6 @@ impl Entry for Timed {
     ghost level = { Prim.search rules };
 
     fn precedes(&self, other: &Timed) -> bool {
-        self.deadline < other.deadline
-            || (self.deadline == other.deadline && self.place <= other.place)
+        (self.deadline, self.place) <= (other.deadline, other.place)
     }
 }

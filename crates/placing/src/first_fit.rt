@@ -55,7 +55,7 @@ fn fill(heap: &mut Heap<'_, Lined>, records: &[Record])
     ensures named { heap.new.slots.ghost_name ≡ heap.old.slots.ghost_name }
 {
     for (i, record) in records.iter().enumerate() {
-        heap.push(Lined {
+        let _ = heap.push(Lined {
             record: *record,
             index: i,
         });

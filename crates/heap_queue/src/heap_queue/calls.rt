@@ -8,7 +8,7 @@ ghost use Rattle.heap_queue.specs.Rows.{length_row};
 use super::HeapQueue;
 use crate::slots::{empty_place, fill_place};
 use crate::timed::Timed;
-use fault::{Cause, Fault, Layer};
+use fault::{Cause, Fault};
 use queue::{PLACES, ReadyQueue, check_place};
 
 impl HeapQueue {
@@ -17,12 +17,7 @@ impl HeapQueue {
         ensures { result ≡ memory_fault (length memory.now.items) }
     {
         if memory.len() < PLACES {
-            return Err(Fault {
-                cause: Cause::MemoryShort,
-                line: 0,
-                column: 0,
-                layer: Layer::Call,
-            });
+            return Err(Fault::of_call(Cause::MemoryShort));
         }
         Ok(())
     }
@@ -44,6 +39,13 @@ impl HeapQueue {
     {
         let HeapQueue { memory, len: _ } = self;
         memory
+    }
+
+    // The entries in the heap.
+    fn entries(&self) -> &[Timed]
+        ensures { result.now ≡ entries self.now }
+    {
+        &self.memory[..self.len]
     }
 }
 
@@ -83,9 +85,6 @@ impl ReadyQueue for HeapQueue {
     }
 
     fn first(&self) -> Option<usize> {
-        if self.len == 0 {
-            return None;
-        }
-        Some(self.memory[0].place)
+        self.entries().first().map(|entry| entry.place)
     }
 }

@@ -1,8 +1,8 @@
-use Rattle.std.proofs.Common.{◌≡◌, ◌+◌, ◌<◌, true, [], length, sym, refl, ap, ◌∙◌, subst, arith}
+use Rattle.std.proofs.Common.{◌+◌, ◌<◌, [], length, sym, refl, ap, ◌∙◌, subst, arith}
 use Rattle.std.specs.List.Sorted.{IsPermutation}
 use Rattle.std.proofs.lemmas.List.{take_all}
 use Rattle.std.proofs.lemmas.List.Sorted.{IsPermutation-refl}
-use Rattle.std.proofs.lemmas.Bool.{lt-ltb}
+use Rattle.heap.proofs.Holding.{taken}
 use Rattle.heap.specs.Held.{held, memory, room}
 use Rattle.boards.specs.Lists.{no_record}
 use Rattle.placing.specs.Order.{lined}
@@ -23,14 +23,13 @@ loop-i-preserved c =
     let rs = c.args.records.now in
     let l = c.loop-i in
     let h = l.heap in
-    let p = c.push.ensures.pushed in
     let n = filled_length rs l.i (held h) l.auto.i-end l.invariant.0 in
     let small : length (held h) < room h = omega (arith, n, l.invariant.2.long, c.requires.fits, c.loop-i-test.true) in
-    let ok : c.push.result ≡ true = p.fits ∙ lt-ltb _ _ small in (
-      fills rs l.i no_record (held h) (held c.push.new.self) c.loop-i-test.true l.invariant.0 (p.taken ok),
-      c.push.ensures.heaped l.invariant.1,
-      past_on (length rs) (length (held h) + 1) _ (memory h) (memory c.push.new.self) (omega (arith, n, c.loop-i-test.true)) l.invariant.2 p.same_room p.beyond,
-      c.push.ensures.named ∙ l.invariant.3,
+    let k = c.push.ensures.kept in (
+      fills rs l.i no_record (held h) (held c.push.new.self) c.loop-i-test.true l.invariant.0 (taken c.push.ensures.pushed small),
+      k.heaped l.invariant.1,
+      past_on (length rs) (length (held h) + 1) _ (memory h) (memory c.push.new.self) (omega (arith, n, c.loop-i-test.true)) l.invariant.2 k.same_room k.beyond,
+      k.named ∙ l.invariant.3,
     )
 
 pub returns : goal.returns

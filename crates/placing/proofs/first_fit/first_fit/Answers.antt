@@ -28,7 +28,7 @@ returns g c =
     ∙ ap (λ xs. placed passes c.args.boards c.args.cycle xs (taken (lined 0 xs))) c.clear_boards.ensures in
     let n = length_cleared rs in
     let count : length es ≡ length rs = filled_length cs (length cs) es (omega arith) (subst (λ l. IsPermutation (lined 0 l) es) (sym (take_all (length cs) cs (omega arith))) c.fill.ensures.held) ∙ ap length c.clear_boards.ensures ∙ n in
-    let past = past_then (length rs) (length es) c.args.scratch.now (memory c.new-heap.result) (memory c.fill.new.heap) (memory c.take_all.new.heap) c.new-heap.ensures.memory count
+    let past = past_then (length rs) (length es) c.args.scratch.now (memory c.new-heap.result) (memory c.fill.new.heap) (memory c.take_all.new.heap) (ap (λ s. s.now) c.new-heap.ensures.slots) count
     (subst (λ (k : ℕ). Past k (memory c.new-heap.result) (memory c.fill.new.heap)) (ap length c.clear_boards.ensures ∙ n) c.fill.ensures.memory) c.take_all.ensures.memory in
     record {
       records = c.take_all.ensures.records ∙ ap (λ r. r.0) whole;

@@ -37,8 +37,8 @@ loop-next-preserved g c =
       leaves.heaped,
       (all_shuffled (λ e. e.index < length c.args.records.now) _ _ removed.others l.invariant.1).1,
       goes_on (g.G.Gauge.passed c.args.gauge.now) c.args.boards c.args.cycle l.records (held l.heap) (held c.pop.new.self) c.in-Some.next _ leaves.in_turn l.invariant.2 c.place_one.new.records ok c.place_one.ensures.records,
-      past_on _ (length (held l.heap)) _ (memory l.heap) (memory c.pop.new.self) l.invariant.5 l.invariant.3 removed.same_room removed.beyond,
-      told.named ∙ l.invariant.4,
+      past_on _ (length (held l.heap)) _ (memory l.heap) (memory c.pop.new.self) l.invariant.5 l.invariant.3 told.kept.same_room told.kept.beyond,
+      told.kept.named ∙ l.invariant.4,
       omega (arith, fewer, l.invariant.5),
     )
 
@@ -53,8 +53,8 @@ returns-then-not-place_one g c =
     record {
       records = ap (λ r. r.0) whole;
       answer = ap (λ r. placed_answer r.1) whole;
-      memory = past_on _ (length (held l.heap)) _ (memory l.heap) (memory c.pop.new.self) l.invariant.5 l.invariant.3 removed.same_room removed.beyond;
-      named = told.named ∙ l.invariant.4;
+      memory = past_on _ (length (held l.heap)) _ (memory l.heap) (memory c.pop.new.self) l.invariant.5 l.invariant.3 told.kept.same_room told.kept.beyond;
+      named = told.kept.named ∙ l.invariant.4;
     }
 
 pub returns : goal.returns
@@ -68,6 +68,6 @@ returns g c =
     record {
       records = ap (λ r. r.0) whole;
       answer = ap (λ r. placed_answer r.1) whole;
-      memory = past_on _ (length (held l.heap)) _ (memory l.heap) (memory c.pop.new.self) l.invariant.5 l.invariant.3 removed.same_room removed.beyond;
-      named = told.named ∙ l.invariant.4;
+      memory = past_on _ (length (held l.heap)) _ (memory l.heap) (memory c.pop.new.self) l.invariant.5 l.invariant.3 told.kept.same_room told.kept.beyond;
+      named = told.kept.named ∙ l.invariant.4;
     }

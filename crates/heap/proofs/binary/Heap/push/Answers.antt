@@ -1,26 +1,27 @@
-use Rattle.std.proofs.Common.{◌<◌, true, length, refl, arith}
-use borrow.Author.Tests.{lt-true, both_ways}
+use Rattle.std.proofs.Common.{Ok, Err, cond, length, sym, refl, ap, arith}
+use Rattle.std.proofs.lemmas.List.{length-take-le}
+use Rattle.std.proofs.lemmas.Bool.{lt-ltb}
 use Rattle.heap.specs.Held.{memory, held}
 use Rattle.heap.proofs.Holding.{pushed_room, pushed_taken, pushed_beyond, pushed_heaped}
 use Rattle.heap.proofs.binary.Heap.push.Goals as goal
 
-pub returns : goal.returns
-returns g c =
+pub returns-clause-pushed : goal.returns-clause-pushed
+returns-clause-pushed g c =
     let h = c.args.self.now in
-    let xs = memory h in
-    let n = c.len-n.result in
-    let ys = c.sift_up.new.s in
-    let e = c.len-n.ensures in
-    let up = c.sift_up.ensures in
-    let room : n < length xs = omega arith in
+    let count = length-take-le h.len (memory h) h.within in
     record {
-      pushed = record {
-        fits = lt-true (length (held h)) (length xs) (omega (arith, e.count));
-        refused = λ no'. absurd (both_ways true no' refl);
-        taken = λ _. pushed_taken xs (held h) ys n _ _ c.args.x e.first e.count room (omega arith) (omega arith) up.shuffled;
-        same_room = pushed_room xs (held h) ys n _ _ c.args.x e.first e.count room (omega arith) (omega arith) up.shuffled;
-        beyond = pushed_beyond xs (held h) ys n _ _ c.args.x e.first e.count room (omega arith) (omega arith) up.shuffled;
-      };
-      heaped = pushed_heaped xs (held h) ys n _ _ c.args.x e.first e.count room (omega arith) (omega arith) up.shuffled g.T.Entry.upto _ (omega arith) up.heaped;
+      fits = ap (λ b. cond b (Ok tt) (Err c.args.x)) (sym (lt-ltb (length (held h)) (length (memory h)) (omega (arith, count))));
+      refused = tt;
+      taken = pushed_taken (memory h) c.sift_up.new.s h.len c.args.x (omega arith) c.sift_up.ensures.shuffled;
+    }
+
+pub returns-clause-kept : goal.returns-clause-kept
+returns-clause-kept g c =
+    let h = c.args.self.now in
+    let up = c.sift_up.ensures in
+    record {
       named = refl;
+      same_room = pushed_room (memory h) c.sift_up.new.s h.len c.args.x (omega arith) up.shuffled;
+      beyond = pushed_beyond (memory h) c.sift_up.new.s h.len c.args.x (omega arith) up.shuffled;
+      heaped = pushed_heaped (memory h) c.sift_up.new.s h.len c.args.x (omega arith) up.shuffled g.T.Entry.upto up.heaped;
     }

@@ -1,40 +1,31 @@
-use Rattle.std.proofs.Common.{take, sym, refl, arith}
-use Rattle.std.proofs.lemmas.Option.{slice_get_past}
-use Rattle.heap.proofs.Holding.{held_at, removed_room, removed_others, removed_beyond, removed_heaped}
+use Rattle.std.proofs.Common.{◌≡◌, ◌<◌, Some, get_or, unwrap_or, sym, refl, ap, ◌∙◌, arith, rules}
+use Rattle.std.specs.Option.{option_copied}
+use Rattle.std.proofs.lemmas.List.{length-take-le}
+use Rattle.std.proofs.lemmas.Option.{slice_get_read}
+use Rattle.heap.specs.Held.{memory, held}
+use Rattle.heap.proofs.Holding.{removed_room, removed_others, removed_beyond, removed_heaped}
 use Rattle.heap.proofs.binary.Heap.remove.Goals as goal
-
--- there is none at i
-pub returns-then-i-n : goal.returns-then-i-n
-returns-then-i-n g c =
-    let h = c.args.self.now in
-    record {
-      removed = record {
-        which = sym (slice_get_past (take h.len h.slots.now) c.args.i (omega (arith, c.len-n.ensures.count)));
-        others = record { entries = refl; slots = refl };
-        same_room = refl;
-        beyond = refl;
-      };
-      heaped = λ o. o;
-      named = refl;
-    }
 
 pub returns : goal.returns
 returns g c =
     let h = c.args.self.now in
-    let xs = h.slots.now in
-    let hs = take h.len xs in
-    let n = c.len-n.result in
     let i = c.args.i in
+    let x = c.in_ok-x.x in
     let ys = c.move_out.new.s in
-    let e = c.len-n.ensures in
-    let out = c.move_out.ensures in
+    let e = c.move_out.ensures in
+    let some : i < h.len = search rules in
+    let count = length-take-le h.len (memory h) h.within in
+    let copied : option_copied c.get.result ≡ Some x = sym c.copied.ensures ∙ c.in_ok-x.was in
+    let read : get_or (held h) i x ≡ x = ap (λ l. get_or l i x) (sym c.entries.ensures) ∙ sym (c.get.ensures.lookup.4 (omega arith) x) ∙ ap (λ o. unwrap_or o x) copied in
     record {
       removed = record {
-        which = held_at xs hs n _ i _ e.first e.count (omega arith) (omega arith);
-        others = removed_others xs hs ys n _ i e.first e.count e.within (omega arith) (omega arith) out.shuffled _ _ _ (omega arith) (omega arith) out.last;
-        same_room = removed_room xs hs ys n _ i e.first e.count e.within (omega arith) (omega arith) out.shuffled;
-        beyond = removed_beyond xs hs ys n _ i e.first e.count e.within (omega arith) (omega arith) out.shuffled;
+        which = sym (slice_get_read (held h) h.len i x (sym count) some (sym read));
+        others = removed_others (memory h) ys h.len i h.within some e.shuffled x read (e.last x);
       };
-      heaped = removed_heaped xs hs ys n _ i e.first e.count e.within (omega arith) (omega arith) out.shuffled g.T.Entry.upto out.heaped;
-      named = refl;
+      kept = record {
+        named = refl;
+        same_room = removed_room (memory h) ys h.len i h.within some e.shuffled;
+        beyond = removed_beyond (memory h) ys h.len i h.within some e.shuffled;
+        heaped = λ o. removed_heaped (memory h) ys h.len i h.within some e.shuffled g.T.Entry.upto (e.heaped o);
+      };
     }
