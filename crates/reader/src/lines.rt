@@ -112,20 +112,10 @@ impl<'a> Reader<'a> {
         let spacing = self.number(SPACING)?;
         let board = self.board(form)?;
         if cost > deadline || deadline > spacing {
-            return Err(Fault {
-                cause: Cause::OutOfOrder,
-                line: self.line,
-                column: COST.first,
-                layer: Layer::Line,
-            });
+            return Err(self.refusal(Cause::OutOfOrder, COST.first, Layer::Line));
         }
         if cycle % spacing != 0 {
-            return Err(Fault {
-                cause: Cause::NotADivisor,
-                line: self.line,
-                column: SPACING.first,
-                layer: Layer::Line,
-            });
+            return Err(self.refusal(Cause::NotADivisor, SPACING.first, Layer::Line));
         }
         self.pos += width + 1;
         self.line += 1;

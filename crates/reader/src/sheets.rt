@@ -12,9 +12,6 @@ use columns::{DUTIES, Form};
 use duty::{Header, Name, Record};
 use fault::{Cause, Fault, Layer};
 
-// The most records of a text.
-const MOST: usize = Header::MOST_DUTIES as usize;
-
 impl<'a> Reader<'a> {
     // Reads a duty's line as a record.
     fn duty_record(&mut self, form: Form, cycle: u32) -> Result<Record, Fault>
@@ -44,16 +41,11 @@ impl<'a> Reader<'a> {
     fn records(&mut self, form: Form, cycle: u32, records: &mut [Record]) -> Result<(), Fault>
         ensures { answered result records.new ≡ records_of form (length records.old) cycle self.old.pos self.old.line (rest self.old) }
     {
-        for i in 0..records.len() {
-            records[i] = self.duty_record(form, cycle)?;
+        for record in records.iter_mut() {
+            *record = self.duty_record(form, cycle)?;
         }
         if self.pos < self.text.len() {
-            return Err(Fault {
-                cause: Cause::TrailingBytes,
-                line: self.line,
-                column: 1,
-                layer: Layer::Table,
-            });
+            return Err(self.refusal(Cause::TrailingBytes, 1, Layer::Table));
         }
         Ok(())
     }
@@ -88,29 +80,13 @@ impl<'a> Reader<'a> {
     }
 }
 
-fn read(form: Form, text: &[u8], records: &mut [Record]) -> Result<Header, Fault>
+// Reads a table or plan: its header, and its duties into the first records, each with its board, in a
+// table 0. Refused, every record is as before.
+pub fn read(form: Form, text: &[u8], records: &mut [Record]) -> Result<Header, Fault>
     ensures answer { headers result ≡ head_in (sheet_of form (length records.old) text.now) }
     ensures after { records.new ≡ filled (sheet_of form (length records.old) text.now) records.old }
+    ensures law { Read form text.now records.old records.new (headers result) }
 {
-    let mut scratch = [Record::BLANK; MOST];
+    let mut scratch = [Record::BLANK; Header::MOST_RECORDS];
     Reader::new(text).sheet(form, &mut scratch, records)
-}
-
-// Reads a table: its header, and its duties into the first records, each with board 0. Refused, every
-// record is as before.
-pub fn read_table(text: &[u8], records: &mut [Record]) -> Result<Header, Fault>
-    ensures answer { headers result ≡ head_in (sheet_of Form.Table (length records.old) text.now) }
-    ensures after { records.new ≡ filled (sheet_of Form.Table (length records.old) text.now) records.old }
-    ensures law { Read Form.Table text.now records.old records.new (headers result) }
-{
-    read(Form::Table, text, records)
-}
-
-// Reads a plan: as a table, with the board of each duty.
-pub fn read_plan(text: &[u8], records: &mut [Record]) -> Result<Header, Fault>
-    ensures answer { headers result ≡ head_in (sheet_of Form.Plan (length records.old) text.now) }
-    ensures after { records.new ≡ filled (sheet_of Form.Plan (length records.old) text.now) records.old }
-    ensures law { Read Form.Plan text.now records.old records.new (headers result) }
-{
-    read(Form::Plan, text, records)
 }
