@@ -18,23 +18,20 @@ impl<'a> Reader<'a> {
         ensures answer { result ≡ line_record form cycle self.old.pos self.old.line (rest self.old) }
         ensures moves { Moved (line_width form) (is_ok result) self.old self.new }
     {
-        match self.line(Due::Duty(form, cycle))? {
-            Line::Table { name, timing } => Ok(Record {
-                name: Name { bytes: *name.bytes },
-                timing,
-                board: 0,
-            }),
+        let (name, timing, board) = match self.line(Due::Duty(form, cycle))? {
+            Line::Table { name, timing } => (name, timing, 0),
             Line::Plan {
                 name,
                 timing,
                 board,
-            } => Ok(Record {
-                name: Name { bytes: *name.bytes },
-                timing,
-                board,
-            }),
-            Line::Header { .. } => unreachable(),
-        }
+            } => (name, timing, board),
+            Line::Header(_) => unreachable!(),
+        };
+        Ok(Record {
+            name: Name { bytes: *name.bytes },
+            timing,
+            board,
+        })
     }
 
     // Reads a line for each record, and then no byte more.
