@@ -75,27 +75,11 @@ module _ (form : Form) (cycle : ℕ) where
   pub none_left : (place line : ℕ) (bs : List ℕ) (xs : List Record) → length bs ≤ 0 → before xs (records_of form 0 cycle place line bs) ≡ Ok xs
   none_left place line bs xs h = ap (before xs) (cond-false _ _ _ (le-ltb 0 (length bs) h)) ∙ ap Ok (append-nil xs)
 
--- a whole text, by its header and its lines
-
-module _ (form : Form) (room : ℕ) (text : List ℕ) (h : Head) (e : Ok h ≡ header_line form 1 text) (fits : h.duties ≤ room) where
-  pub sheet_refused : (f : Fault) → Err f ≡ records_of form h.duties h.cycle 21 2 (drop 21 text) → sheet_of form room text ≡ Err f
-  sheet_refused f k = then_ok _ (sym e) ∙ cond-false _ _ _ (le-ltb room h.duties fits) ∙ then_err _ (sym k)
-
-  pub sheet_read : (rs : List Record) → Ok rs ≡ records_of form h.duties h.cycle 21 2 (drop 21 text) → sheet_of form room text ≡ Ok (record { head = h; rows = rs })
-  sheet_read rs k = then_ok _ (sym e) ∙ cond-false _ _ _ (le-ltb room h.duties fits) ∙ then_ok _ (sym k)
-
--- where the cursor stands before the header and after it
-
-pub at_start : (form : Form) (text t : List ℕ) (p l : ℕ) → t ≡ text → p ≡ 0 → l ≡ 1 → header_line form l (drop p t) ≡ header_line form 1 text
-at_start form text t p l et ep el =
-    ap (λ (s : List ℕ). header_line form l (drop p s)) et
-    ∙ ap (λ (n : ℕ). header_line form l (drop n text)) ep
-    ∙ ap (λ (n : ℕ). header_line form n text) el
-
-pub at_lines : (form : Form) (n m cycle kept p l : ℕ) (text t : List ℕ) → n ≡ m → cycle ≡ kept → t ≡ text → p ≡ 21 → l ≡ 2 → records_of form n cycle p l (drop p t) ≡ records_of form m kept 21 2 (drop 21 text)
-at_lines form n m cycle kept p l text t en ec et ep el =
-    ap (λ (k : ℕ). records_of form k cycle p l (drop p t)) en
-    ∙ ap (λ (k : ℕ). records_of form m k p l (drop p t)) ec
-    ∙ ap (λ (s : List ℕ). records_of form m kept p l (drop p s)) et
-    ∙ ap (λ (k : ℕ). records_of form m kept k l (drop k text)) ep
-    ∙ ap (λ (k : ℕ). records_of form m kept 21 k (drop 21 text)) el
+-- a whole text, as its header, read at the start, and its lines, read from past the header
+pub sheet_then : (form : Form) (room : ℕ) (text : List ℕ) (h : Head) (p l : ℕ) → Ok h ≡ header_line form l (drop p text) → p ≡ 0 → l ≡ 1 → h.duties ≤ room → (m : Result (List Record) Fault) (n cycle p' l' : ℕ) (text' : List ℕ) → m ≡ records_of form n cycle p' l' (drop p' text') → n ≡ h.duties → cycle ≡ h.cycle → text' ≡ text → p' ≡ p + 21 → l' ≡ l + 1 → sheet_of form room text ≡ then m (λ rs. Ok (record { head = h; rows = rs }))
+sheet_then form room text h p l e ep el fits m n cycle p' l' text' k en ec et ep' el' =
+    let header : header_line form 1 text ≡ Ok h = sym (rw (ep, el) at e) in
+    let p21 : p' ≡ 21 = omega arith in
+    let l2 : l' ≡ 2 = omega arith in
+    let lines : records_of form h.duties h.cycle 21 2 (drop 21 text) ≡ m = sym (rw (en, ec, et, p21, l2) at k) in
+    then_ok _ header ∙ cond-false _ _ _ (le-ltb room h.duties fits) ∙ ap (λ r. then r (λ rs. Ok (record { head = h; rows = rs }))) lines

@@ -1,6 +1,5 @@
 // Whole texts: a header, and a line for each duty.
 ghost use Rattle.std.specs.Prelude.{◌≡◌, ◌≤◌, length, is_ok};
-ghost use Rattle.duty.specs.Limits.{most_duties};
 ghost use Rattle.columns.specs.Forms.{line_width};
 ghost use Rattle.columns.specs.Tables.{records_of, sheet_of, head_in, filled};
 ghost use Rattle.reader.specs.Sheets.{line_record, answered, Read};
@@ -47,16 +46,10 @@ impl<'a> Reader<'a> {
         Ok(())
     }
 
-    // Reads a whole text from its start. The lines go through the scratch records, so that a refusal
-    // leaves the records as they were.
-    fn sheet(
-        &mut self,
-        form: Form,
-        scratch: &mut [Record],
-        records: &mut [Record],
-    ) -> Result<Header, Fault>
+    // Reads a whole text from its start. The lines go through scratch records, so that a refusal leaves
+    // the records as they were.
+    fn sheet(&mut self, form: Form, records: &mut [Record]) -> Result<Header, Fault>
         requires start { (self.old.pos ≡ 0) × (self.old.line ≡ 1) }
-        requires scratch { most_duties ≤ length scratch.old }
         ensures answer { headers result ≡ head_in (sheet_of form (length records.old) self.old.text.now) }
         ensures after { records.new ≡ filled (sheet_of form (length records.old) self.old.text.now) records.old }
     {
@@ -70,9 +63,10 @@ impl<'a> Reader<'a> {
                 layer: Layer::Table,
             });
         }
-        let rows = &mut scratch[0..duties];
+        let mut scratch = [Record::BLANK; Header::MOST_RECORDS];
+        let rows = &mut scratch[..duties];
         self.records(form, header.cycle(), rows)?;
-        records[0..duties].copy_from_slice(rows);
+        records[..duties].copy_from_slice(rows);
         Ok(header)
     }
 }
@@ -84,6 +78,5 @@ pub fn read(form: Form, text: &[u8], records: &mut [Record]) -> Result<Header, F
     ensures after { records.new ≡ filled (sheet_of form (length records.old) text.now) records.old }
     ensures law { Read form text.now records.old records.new (headers result) }
 {
-    let mut scratch = [Record::BLANK; Header::MOST_RECORDS];
-    Reader::new(text).sheet(form, &mut scratch, records)
+    Reader::new(text).sheet(form, records)
 }
