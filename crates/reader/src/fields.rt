@@ -48,7 +48,8 @@ impl<'a> Reader<'a> {
         Ok(())
     }
 
-    // The number in a field.
+    // The number in a field. Each field asks for its own columns: a type for a line that is due and whole
+    // would ask the same, since how many columns there are depends on the line.
     pub(crate) fn number(&self, field: Field) -> Result<u32, Fault>
         requires starts { 1 ≤ field.first }
         requires goes_on { field.first ≤ field.last }

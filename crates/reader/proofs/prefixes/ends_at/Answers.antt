@@ -1,4 +1,4 @@
-use Rattle.std.proofs.Common.{◌≡◌, ◌&&◌, not, nat_eq, take, true≢false, sym, ap, ◌∙◌}
+use Rattle.std.proofs.Common.{◌&&◌, not, nat_eq, take, true≢false, sym, ap, ◌∙◌}
 use Rattle.std.specs.List.{list_any}
 use Rattle.std.proofs.lemmas.Bool.{le-ltb}
 use Rattle.reader.proofs.Fronts.{ends_short, ends_here}
