@@ -1,28 +1,22 @@
-use Rattle.std.proofs.Common.{ℕ, is_ok, Ok, Err, sym, ap, ◌∙◌, subst}
+use Rattle.std.proofs.Common.{ℕ, Ok, Err, ap, ◌∙◌}
 use Rattle.std.proofs.lemmas.Result.{err_from_is_err_and}
 use Rattle.columns.specs.declared.forms.Form.TheVariants as form
-use Rattle.columns.specs.Forms.{line_width}
 use Rattle.duty.specs.declared.records.Record.{Record}
 use Rattle.duty.specs.declared.timings.Timing.{Timing}
 use Rattle.columns.specs.Lines.{duty_row}
 use Rattle.reader.specs.declared.lines.NamePart.{NamePart}
 use Rattle.reader.specs.Cases.{case}
-use Rattle.reader.specs.Views.{part, rest, Moved}
+use Rattle.reader.specs.Views.{part, rest}
 use Rattle.reader.proofs.Recorded.{case_record, case_refused, no_header}
 use Rattle.reader.proofs.cursor.Reader.duty_record.Goals as goal
 use Rattle.reader.proofs.cursor.Reader.duty_record.Goals.{in-Table, in-Plan}
 
-pub returns-in_err-name : goal.returns-in_err-name
-returns-in_err-name c =
+pub returns-in_err-name-clause-answer : goal.returns-in_err-name-clause-answer
+returns-in_err-name-clause-answer c =
     let s = c.args.self.now in
     let m = duty_row c.args.form c.args.cycle s.pos s.line (rest s) in
     let p = err_from_is_err_and c.from_residual.result c.from_residual.ensures.1 in
-    let is = p.1 ∙ ap Err p.2 in
-    let back = c.in_err-name.ensures in
-    record {
-      answer = is ∙ case_refused m c.args.form _ back.answer;
-      moves = subst (λ r. Moved (line_width c.args.form) (is_ok r) s c.line.new.self) (sym is) back.moves;
-    }
+    p.1 ∙ ap Err p.2 ∙ case_refused m c.args.form _ c.in_err-name.ensures.answer
 
 pub unreachable-requires : goal.unreachable-requires
 unreachable-requires c =
