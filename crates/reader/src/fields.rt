@@ -91,6 +91,7 @@ impl<'a> Reader<'a> {
         requires { letter_column ≤ length (rest self.now) }
         ensures { result ≡ letter_at self.now.line (rest self.now) }
     {
+        // By `map_err` this is one line shorter, but the proof does not see what its closure gives.
         match Letter::try_from(self.rest()[LETTER_COLUMN - 1]) {
             Ok(letter) => Ok(letter),
             Err(_) => Err(self.refusal(Cause::BadCharacter, LETTER_COLUMN, Layer::Field)),
