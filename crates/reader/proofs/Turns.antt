@@ -6,7 +6,7 @@ use Rattle.fault.specs.declared.Cause.TheVariants.{TrailingBytes}
 use Rattle.fault.specs.declared.Fault.{Fault}
 use Rattle.fault.specs.declared.Layer.TheVariants as layer
 use Rattle.fault.specs.Faults.{fault, then}
-use Rattle.fault.proofs.Steps.{then_ok, then_err, never}
+use Rattle.fault.proofs.Steps.{then_ok, never}
 use Rattle.duty.specs.declared.records.Record.{Record}
 use Rattle.duty.specs.Heads.{Head}
 use Rattle.columns.specs.declared.forms.Form.{Form}
@@ -23,10 +23,6 @@ before xs (Err f) = Err f
 before_cons : (xs : List Record) (x : Record) (m : Result (List Record) Fault) → before (xs ++ x ∷ []) m ≡ before xs (then m (λ rs. Ok (x ∷ rs)))
 before_cons xs x (Ok ys) = ap Ok (append_assoc xs (x ∷ []) ys)
 before_cons xs x (Err f) = refl
-
-pub before_none : (m : Result (List Record) Fault) → before [] m ≡ m
-before_none (Ok ys) = refl
-before_none (Err f) = refl
 
 -- a line's record, before the records of the lines after it
 row_first : (m : Result Row Fault) (x : Record) (k : Result (List Record) Fault) → Ok x ≡ then m (λ r. Ok (record_of r)) → then m (λ r. then k (λ rs. Ok (record_of r ∷ rs))) ≡ then k (λ rs. Ok (x ∷ rs))
@@ -60,10 +56,7 @@ module _ (form : Form) (cycle : ℕ) where
       let one : n - i ≡ suc m = omega arith in
       let front : take (i + 1) (set rows i x) ≡ take i rows ++ x ∷ [] = take_more_set rows i x k in
       let back : records_of form m cycle pos' line' (drop pos' text') ≡ records_of form m cycle (pos + w) (line + 1) (drop w (drop pos text)) =
-      ap (λ (s : List ℕ). records_of form m cycle pos' line' (drop pos' s)) t
-      ∙ ap (λ (q : ℕ). records_of form m cycle q line' (drop q text)) p
-      ∙ ap (λ (q : ℕ). records_of form m cycle (pos + w) q (drop (pos + w) text)) l
-      ∙ ap (records_of form m cycle (pos + w) (line + 1)) (sym (drop-drop w pos text)) in
+      rw (t, p, l) (ap (records_of form m cycle (pos + w) (line + 1)) (sym (drop-drop w pos text))) in
       ap (λ (s : List Record). before s (records_of form m cycle pos' line' (drop pos' text'))) front
       ∙ ap (before (take i rows ++ x ∷ [])) back
       ∙ more_at (n - i) m pos line (drop pos text) (take i rows) x one e
@@ -75,27 +68,14 @@ module _ (form : Form) (cycle : ℕ) where
   pub none_left : (place line : ℕ) (bs : List ℕ) (xs : List Record) → length bs ≤ 0 → before xs (records_of form 0 cycle place line bs) ≡ Ok xs
   none_left place line bs xs h = ap (before xs) (cond-false _ _ _ (le-ltb 0 (length bs) h)) ∙ ap Ok (append-nil xs)
 
--- a whole text, by its header and its lines
+-- a whole text, as its header and its lines
+whole : (form : Form) (room : ℕ) (text : List ℕ) (h : Head) (m : Result (List Record) Fault) → header_line form 1 text ≡ Ok h → h.duties ≤ room → records_of form h.duties h.cycle 21 2 (drop 21 text) ≡ m → sheet_of form room text ≡ then m (λ rs. Ok (record { head = h; rows = rs }))
+whole form room text h m header fits lines =
+    then_ok _ header ∙ cond-false _ _ _ (le-ltb room h.duties fits) ∙ ap (λ r. then r (λ rs. Ok (record { head = h; rows = rs }))) lines
 
-module _ (form : Form) (room : ℕ) (text : List ℕ) (h : Head) (e : Ok h ≡ header_line form 1 text) (fits : h.duties ≤ room) where
-  pub sheet_refused : (f : Fault) → Err f ≡ records_of form h.duties h.cycle 21 2 (drop 21 text) → sheet_of form room text ≡ Err f
-  sheet_refused f k = then_ok _ (sym e) ∙ cond-false _ _ _ (le-ltb room h.duties fits) ∙ then_err _ (sym k)
-
-  pub sheet_read : (rs : List Record) → Ok rs ≡ records_of form h.duties h.cycle 21 2 (drop 21 text) → sheet_of form room text ≡ Ok (record { head = h; rows = rs })
-  sheet_read rs k = then_ok _ (sym e) ∙ cond-false _ _ _ (le-ltb room h.duties fits) ∙ then_ok _ (sym k)
-
--- where the cursor stands before the header and after it
-
-pub at_start : (form : Form) (text t : List ℕ) (p l : ℕ) → t ≡ text → p ≡ 0 → l ≡ 1 → header_line form l (drop p t) ≡ header_line form 1 text
-at_start form text t p l et ep el =
-    ap (λ (s : List ℕ). header_line form l (drop p s)) et
-    ∙ ap (λ (n : ℕ). header_line form l (drop n text)) ep
-    ∙ ap (λ (n : ℕ). header_line form n text) el
-
-pub at_lines : (form : Form) (n m cycle kept p l : ℕ) (text t : List ℕ) → n ≡ m → cycle ≡ kept → t ≡ text → p ≡ 21 → l ≡ 2 → records_of form n cycle p l (drop p t) ≡ records_of form m kept 21 2 (drop 21 text)
-at_lines form n m cycle kept p l text t en ec et ep el =
-    ap (λ (k : ℕ). records_of form k cycle p l (drop p t)) en
-    ∙ ap (λ (k : ℕ). records_of form m k p l (drop p t)) ec
-    ∙ ap (λ (s : List ℕ). records_of form m kept p l (drop p s)) et
-    ∙ ap (λ (k : ℕ). records_of form m kept k l (drop k text)) ep
-    ∙ ap (λ (k : ℕ). records_of form m kept 21 k (drop 21 text)) el
+-- as the cursor reads it: the header from the start, and the lines from past the header
+pub sheet_then : (form : Form) (room : ℕ) (text : List ℕ) (h : Head) (p l : ℕ) → Ok h ≡ header_line form l (drop p text) → p ≡ 0 → l ≡ 1 → h.duties ≤ room → (m : Result (List Record) Fault) (n cycle p' l' : ℕ) (text' : List ℕ) → m ≡ records_of form n cycle p' l' (drop p' text') → n ≡ h.duties → cycle ≡ h.cycle → text' ≡ text → p' ≡ p + 21 → l' ≡ l + 1 → sheet_of form room text ≡ then m (λ rs. Ok (record { head = h; rows = rs }))
+sheet_then form room text h p l e ep el fits m n cycle p' l' text' k en ec et ep' el' =
+    let p21 : p' ≡ 21 = omega arith in
+    let l2 : l' ≡ 2 = omega arith in
+    whole form room text h m (sym (rw (ep, el) at e)) fits (sym (rw (en, ec, et, p21, l2) at k))

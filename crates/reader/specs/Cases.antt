@@ -2,7 +2,7 @@
 use Rattle.std.specs.Prelude.{ℕ, List, Ok, Err, Result}
 use Rattle.fault.specs.declared.Fault.{Fault}
 use Rattle.fault.specs.Faults.{then}
-use Rattle.duty.specs.Heads.{Head}
+use Rattle.duty.specs.Heads.{Head, head}
 use Rattle.columns.specs.declared.forms.Form.{Form}
 use Rattle.columns.specs.declared.forms.Form.TheVariants as form
 use Rattle.columns.specs.Forms.{line_width}
@@ -21,7 +21,7 @@ pub data Case : Type 0 where
 
 -- the case of a line
 abbrev pub case : Line → Case
-case (line.Header letter boards duties cycle) = header_case (record { letter = letter; boards = boards; duties = duties; cycle = cycle })
+case (line.Header header) = header_case (head header)
 case (line.Table name timing) = duty_case form.Table (record { name = part name; timing = timing; board = 0 })
 case (line.Plan name timing board) = duty_case form.Plan (record { name = part name; timing = timing; board = board })
 

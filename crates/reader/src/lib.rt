@@ -9,4 +9,4 @@ mod sheets;
 
 pub use cursor::Reader;
 pub use lines::{Due, Line, NamePart};
-pub use sheets::{read_plan, read_table};
+pub use sheets::read;

@@ -8,7 +8,7 @@ ghost use Rattle.reader.specs.Views.{rest, headers, Moved};
 
 use super::cursor::Reader;
 use columns::{BOARDS, COST, CYCLE, DEADLINE, DUTIES, Form, HEADER_WIDTH, SPACING};
-use duty::{Header, Letter, Timing};
+use duty::{Header, Timing};
 use fault::{Cause, Fault, Layer};
 
 // A name, borrowed from where it stands in the text, and the place of its first byte.
@@ -21,12 +21,7 @@ pub struct NamePart<'a> {
 // A line by its case.
 #[derive(Clone, Copy)]
 pub enum Line<'a> {
-    Header {
-        letter: Letter,
-        boards: u8,
-        duties: u8,
-        cycle: u32,
-    },
+    Header(Header),
     Table {
         name: NamePart<'a>,
         timing: Timing,
@@ -65,19 +60,7 @@ impl<'a> Reader<'a> {
         ensures moves { Moved (due_width due) (is_ok result) self.old self.new }
     {
         match due {
-            Due::Header(form) => {
-                let header = self.header(form)?;
-                let letter = header.letter();
-                let boards = header.boards();
-                let duties = header.duties();
-                let cycle = header.cycle();
-                Ok(Line::Header {
-                    letter,
-                    boards,
-                    duties,
-                    cycle,
-                })
-            }
+            Due::Header(form) => Ok(Line::Header(self.header(form)?)),
             Due::Duty(form, cycle) => self.duty_line(form, cycle),
         }
     }
@@ -112,20 +95,10 @@ impl<'a> Reader<'a> {
         let spacing = self.number(SPACING)?;
         let board = self.board(form)?;
         if cost > deadline || deadline > spacing {
-            return Err(Fault {
-                cause: Cause::OutOfOrder,
-                line: self.line,
-                column: COST.first,
-                layer: Layer::Line,
-            });
+            return Err(self.refusal(Cause::OutOfOrder, COST.first, Layer::Line));
         }
         if cycle % spacing != 0 {
-            return Err(Fault {
-                cause: Cause::NotADivisor,
-                line: self.line,
-                column: SPACING.first,
-                layer: Layer::Line,
-            });
+            return Err(self.refusal(Cause::NotADivisor, SPACING.first, Layer::Line));
         }
         self.pos += width + 1;
         self.line += 1;

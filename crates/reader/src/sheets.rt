@@ -1,6 +1,5 @@
 // Whole texts: a header, and a line for each duty.
 ghost use Rattle.std.specs.Prelude.{◌≡◌, ◌≤◌, length, is_ok};
-ghost use Rattle.duty.specs.Limits.{most_duties};
 ghost use Rattle.columns.specs.Forms.{line_width};
 ghost use Rattle.columns.specs.Tables.{records_of, sheet_of, head_in, filled};
 ghost use Rattle.reader.specs.Sheets.{line_record, answered, Read};
@@ -12,62 +11,45 @@ use columns::{DUTIES, Form};
 use duty::{Header, Name, Record};
 use fault::{Cause, Fault, Layer};
 
-// The most records of a text.
-const MOST: usize = Header::MOST_DUTIES as usize;
-
 impl<'a> Reader<'a> {
     // Reads a duty's line as a record.
     fn duty_record(&mut self, form: Form, cycle: u32) -> Result<Record, Fault>
         ensures answer { result ≡ line_record form cycle self.old.pos self.old.line (rest self.old) }
         ensures moves { Moved (line_width form) (is_ok result) self.old self.new }
     {
-        match self.line(Due::Duty(form, cycle))? {
-            Line::Table { name, timing } => Ok(Record {
-                name: Name { bytes: *name.bytes },
-                timing,
-                board: 0,
-            }),
+        let (name, timing, board) = match self.line(Due::Duty(form, cycle))? {
+            Line::Table { name, timing } => (name, timing, 0),
             Line::Plan {
                 name,
                 timing,
                 board,
-            } => Ok(Record {
-                name: Name { bytes: *name.bytes },
-                timing,
-                board,
-            }),
-            Line::Header { .. } => unreachable(),
-        }
+            } => (name, timing, board),
+            Line::Header(_) => unreachable!(),
+        };
+        Ok(Record {
+            name: Name { bytes: *name.bytes },
+            timing,
+            board,
+        })
     }
 
     // Reads a line for each record, and then no byte more.
     fn records(&mut self, form: Form, cycle: u32, records: &mut [Record]) -> Result<(), Fault>
         ensures { answered result records.new ≡ records_of form (length records.old) cycle self.old.pos self.old.line (rest self.old) }
     {
-        for i in 0..records.len() {
-            records[i] = self.duty_record(form, cycle)?;
+        for record in records.iter_mut() {
+            *record = self.duty_record(form, cycle)?;
         }
         if self.pos < self.text.len() {
-            return Err(Fault {
-                cause: Cause::TrailingBytes,
-                line: self.line,
-                column: 1,
-                layer: Layer::Table,
-            });
+            return Err(self.refusal(Cause::TrailingBytes, 1, Layer::Table));
         }
         Ok(())
     }
 
-    // Reads a whole text from its start. The lines go through the scratch records, so that a refusal
-    // leaves the records as they were.
-    fn sheet(
-        &mut self,
-        form: Form,
-        scratch: &mut [Record],
-        records: &mut [Record],
-    ) -> Result<Header, Fault>
+    // Reads a whole text from its start. The lines go through scratch records, so that a refusal leaves
+    // the records as they were.
+    fn sheet(&mut self, form: Form, records: &mut [Record]) -> Result<Header, Fault>
         requires start { (self.old.pos ≡ 0) × (self.old.line ≡ 1) }
-        requires scratch { most_duties ≤ length scratch.old }
         ensures answer { headers result ≡ head_in (sheet_of form (length records.old) self.old.text.now) }
         ensures after { records.new ≡ filled (sheet_of form (length records.old) self.old.text.now) records.old }
     {
@@ -81,36 +63,20 @@ impl<'a> Reader<'a> {
                 layer: Layer::Table,
             });
         }
-        let rows = &mut scratch[0..duties];
+        let mut scratch = [Record::BLANK; Header::MOST_RECORDS];
+        let rows = &mut scratch[..duties];
         self.records(form, header.cycle(), rows)?;
-        records[0..duties].copy_from_slice(rows);
+        records[..duties].copy_from_slice(rows);
         Ok(header)
     }
 }
 
-fn read(form: Form, text: &[u8], records: &mut [Record]) -> Result<Header, Fault>
+// Reads a table or plan: its header, and its duties into the first records, each with its board, in a
+// table 0. Refused, every record is as before.
+pub fn read(form: Form, text: &[u8], records: &mut [Record]) -> Result<Header, Fault>
     ensures answer { headers result ≡ head_in (sheet_of form (length records.old) text.now) }
     ensures after { records.new ≡ filled (sheet_of form (length records.old) text.now) records.old }
+    ensures law { Read form text.now records.old records.new (headers result) }
 {
-    let mut scratch = [Record::BLANK; MOST];
-    Reader::new(text).sheet(form, &mut scratch, records)
-}
-
-// Reads a table: its header, and its duties into the first records, each with board 0. Refused, every
-// record is as before.
-pub fn read_table(text: &[u8], records: &mut [Record]) -> Result<Header, Fault>
-    ensures answer { headers result ≡ head_in (sheet_of Form.Table (length records.old) text.now) }
-    ensures after { records.new ≡ filled (sheet_of Form.Table (length records.old) text.now) records.old }
-    ensures law { Read Form.Table text.now records.old records.new (headers result) }
-{
-    read(Form::Table, text, records)
-}
-
-// Reads a plan: as a table, with the board of each duty.
-pub fn read_plan(text: &[u8], records: &mut [Record]) -> Result<Header, Fault>
-    ensures answer { headers result ≡ head_in (sheet_of Form.Plan (length records.old) text.now) }
-    ensures after { records.new ≡ filled (sheet_of Form.Plan (length records.old) text.now) records.old }
-    ensures law { Read Form.Plan text.now records.old records.new (headers result) }
-{
-    read(Form::Plan, text, records)
+    Reader::new(text).sheet(form, records)
 }

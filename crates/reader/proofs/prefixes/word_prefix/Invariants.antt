@@ -1,10 +1,6 @@
-use Rattle.std.proofs.Common.{◌≡◌, ◌+◌, ◌-◌, ◌≤◌, length, drop}
+use Rattle.std.proofs.Common.{◌≡◌, ◌+◌, drop}
 use Rattle.columns.specs.Lines.{matched}
 use Rattle.reader.proofs.prefixes.word_prefix.Given as goal
 
 abbrev pub invariant-loop-i : goal.invariant-loop-i
-invariant-loop-i l =
-    (l.i + matched (drop l.i l.word) (drop l.i l.text) ≡ matched l.word l.text) × (l.i ≤ length l.word)
-
-abbrev pub decreases-loop-i : goal.decreases-loop-i
-decreases-loop-i l = length l.word - l.i
+invariant-loop-i l = l.i + matched (drop l.i l.word) (drop l.i l.text) ≡ matched l.word l.text
