@@ -1,5 +1,5 @@
 -- What was written reads back.
-use Rattle.std.proofs.Common.{◌≡◌, ℕ, ◌%◌, true, ◌&&◌, eqb, List, [], ◌∷◌, ◌++◌, map, take, Ok, sym, refl, ap, ◌∙◌}
+use Rattle.std.proofs.Common.{◌≡◌, ℕ, ◌%◌, true, ◌&&◌, eqb, List, [], ◌∷◌, ◌++◌, length, map, take, Ok, sym, refl, ap, ◌∙◌}
 use Rattle.std.specs.List.{flat_map, AllByRecursion}
 use Rattle.std.proofs.lemmas.List.{length-map}
 use Rattle.std.proofs.lemmas.Bool.{and_from}
@@ -11,8 +11,8 @@ use Rattle.duty.specs.Timely.{timely}
 use Rattle.columns.specs.declared.forms.Form.{Form}
 use Rattle.columns.specs.declared.forms.Form.TheVariants.{Table, Plan}
 use Rattle.columns.specs.Checks.{records_fault}
-use Rattle.columns.specs.Texts.{text, header_text, line_text, Writable, Valid}
-use Rattle.columns.proofs.SheetTrips.{one_text}
+use Rattle.columns.specs.Texts.{text, text_length, header_text, line_text, Writable, Valid}
+use Rattle.columns.proofs.SheetTrips.{one_text, length_text}
 use Rattle.writer.specs.Puts.{Sized}
 use Rattle.writer.specs.Written.{whole, sheet, shown, ReadsBack}
 use Rattle.writer.proofs.Accepted.{tested, length_rows, all_duties}
@@ -45,5 +45,11 @@ module _ (form : Form) (h : Head) (rs : List Record) (limits : head_limits h ≡
     rows = all_writable form h.cycle (take h.duties rs) (all_duties h rs ok) sized;
   }
 
+  same_text : text form (whole h (map (shown form) (take h.duties rs))) ≡ text form (sheet h rs)
+  same_text = ap (λ (l : List ℕ). header_text form h ++ l) (lines_shown form (take h.duties rs))
+
+  pub length_whole : length (text form (sheet h rs)) ≡ text_length form h.duties
+  length_whole = ap length (sym same_text) ∙ length_text form _ valid
+
   pub text_back : (bs : List ℕ) → bs ≡ text form (sheet h rs) → ReadsBack form h rs bs
-  text_back bs e = λ room enough. one_text.back form room bs _ (record { valid = valid; written = e ∙ ap (λ (l : List ℕ). header_text form h ++ l) (sym (lines_shown form (take h.duties rs))); room_for = enough })
+  text_back bs e = λ room enough. one_text.back form room bs _ (record { valid = valid; written = e ∙ sym same_text; room_for = enough })
