@@ -31,6 +31,6 @@ pub record Fitting (r : Record) : Type 0 where
   pub spacing : r.timing.spacing ≤ longest
   pub board : r.board ≤ most_boards
 
--- the name of a record fills its columns
+-- the name of a record fills its columns: of a row behind a slice this is known only once it was read
 abbrev pub Sized : Record → Type 0
 Sized r = length r.name.bytes ≡ name_width

@@ -17,6 +17,9 @@ use columns::{
 use duty::{Header, Record};
 
 // Where the next line goes: `pos` is the place of its first byte.
+// `out` stays whole, with a place beside it: if a method kept the rest of it alone, a clause would have to say what
+// is lent on, and such a clause is proved by hand alone. Each method needs another amount of room: so clauses ask
+// for it, and no field of the type.
 #[derive(Drop)]
 pub(crate) struct Writer<'a> {
     out: &'a mut [u8],
@@ -32,6 +35,7 @@ impl<'a> Writer<'a> {
     }
 
     // Puts bytes from a column of the line on.
+    #[tactic(auto, using(std::proofs::lemmas::Slice::overwrites), unfolding(crate::specs::Puts::put))]
     fn bytes(&mut self, first: usize, bytes: &[u8])
         requires { (1 ≤ first) × (self.old.pos + (first - 1) + length bytes.now ≤ length self.old.out.now) }
         ensures { Placed first bytes.now self.old self.new }
@@ -75,6 +79,7 @@ impl<'a> Writer<'a> {
     }
 
     // Puts the board of a plan line; a table line has none.
+    #[tactic(auto, using(crate::proofs::Parts::put_nothing))]
     fn board(&mut self, form: Form, row: &Record)
         requires fits { row.now.board ≤ most_boards }
         requires room { self.old.pos + (line_width form + 1) ≤ length self.old.out.now }

@@ -9,7 +9,7 @@ pub returns : goal.returns
 returns c =
     let w = c.args.self.now in
     let h = head c.args.header.now in
-    let limits = limits_kept h (omega arith) (omega arith) (omega arith) (omega arith) (omega arith) in
+    let limits = limits_kept c.args.header.now in
     let long = length_header c.args.form h limits in
     let text = header_put c.args.form h limits w.pos w.out.now (omega arith) in
     record { holds = cc; stands = omega arith; long = cc; same = cc }

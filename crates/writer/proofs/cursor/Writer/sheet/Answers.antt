@@ -10,7 +10,7 @@ use Rattle.writer.proofs.cursor.Writer.sheet.Goals as goal
 pub lines-requires : goal.lines-requires
 lines-requires c =
     let h = head c.args.header.now in
-    let limits = limits_kept h (omega arith) (omega arith) (omega arith) (omega arith) (omega arith) in
+    let limits = limits_kept c.args.header.now in
     let long = length_header c.args.form h limits in
     record { fits = c.requires.fits; room = omega arith }
 
