@@ -1,76 +1,48 @@
 -- What is known of a header and records that were not refused.
-use Rattle.std.proofs.Common.{◌≡◌, ℕ, ◌%◌, ◌≤◌, true, false, ◌&&◌, eqb, ltb, leb, List, [], ◌∷◌, length, take, Some, None, Ok, Option, sym, refl, ◌∙◌, ⊎_elim, arith, length-take}
-use Rattle.std.specs.Option.{option_map}
-use Rattle.std.specs.List.{AllByRecursion}
-use Rattle.std.proofs.ByRecursion.{All-weaker}
-use Rattle.std.proofs.lemmas.Bool.{cases_Bool, cond-true, cond-false, and_parts, and_from, leb-true, le-leb, ltb-false, le-ltb}
-use Rattle.fault.proofs.Steps.{never, passed_unless, then_ok}
+use Rattle.std.proofs.Common.{◌≡◌, ℕ, ◌≤◌, true, false, ltb, List, length, take, Some, None, Ok, Option, Bool, not, sym, refl, ◌∙◌, arith, length-take}
+use Rattle.std.specs.List.{position_or_len, AllByRecursion}
+use Rattle.std.proofs.ByRecursion.{All-from_get_or, All-weaker}
+use Rattle.std.proofs.Math.Bool.{not-not}
+use Rattle.std.proofs.lemmas.Bool.Decides.{nat_tests}
+use Rattle.std.proofs.lemmas.List.Sums.{prefix_len_passes}
+use Rattle.std.proofs.lemmas.Bool.{cond-false, ltb-false, le-ltb}
+use Rattle.fault.proofs.Steps.{passed_unless, then_ok}
 use Rattle.duty.specs.declared.records.Record.{Record}
-use Rattle.duty.specs.Heads.{Head, head_limits}
-use Rattle.duty.specs.Limits.{longest, most_boards, most_duties}
-use Rattle.duty.specs.Names.{named}
-use Rattle.duty.specs.Records.{duty_record, in_cycle, first_misfit}
-use Rattle.duty.specs.Timely.{timely}
+use Rattle.duty.specs.Firsts.{first_failing}
+use Rattle.duty.specs.declared.headers.Header.{Header}
+use Rattle.duty.specs.Heads.{Head, head, head_limits}
+use Rattle.duty.specs.Records.{in_cycle, first_misfit}
 use Rattle.columns.specs.declared.forms.Form.{Form}
 use Rattle.columns.specs.Checks.{misfit_fault, records_fault}
 use Rattle.columns.specs.Texts.{text, text_length}
 use Rattle.writer.specs.Puts.{Fitting}
 use Rattle.writer.specs.Written.{sheet, write_of}
+use Rattle.writer.proofs.Lines.{blank}
 
--- a header's numbers keep their limits
-pub limits_kept : (h : Head) → 1 ≤ h.boards → h.boards ≤ most_boards → h.duties ≤ most_duties → 1 ≤ h.cycle → h.cycle ≤ longest → head_limits h ≡ true
-limits_kept h some_board few_boards few_duties some_cycle short_cycle =
-    and_from _ _
-    (and_from _ _ (le-leb 1 h.boards some_board) (le-leb h.boards most_boards few_boards))
-    (and_from _ _ (le-leb h.duties most_duties few_duties) (and_from _ _ (le-leb 1 h.cycle some_cycle) (le-leb h.cycle longest short_cycle)))
-
--- some place is not none
-some_place : {i : ℕ} → Some i ≡ None → ⊥
-some_place e = let z : ◌≡◌ {A = ℕ} 0 1 = cc in omega arith
-
-mapped_none : (f : ℕ → ℕ) (o : Option ℕ) → option_map f o ≡ None → o ≡ None
-mapped_none f None e = refl
-mapped_none f (Some i) e = absurd (some_place e)
+-- a header keeps its limits
+pub limits_kept : (h : Header) → head_limits (head h) ≡ true
+limits_kept h = grind (arith, nat_tests)
 
 -- where no row is found, each is a duty record of the cycle
 no_misfit : (cycle : ℕ) (rs : List Record) → first_misfit cycle rs ≡ None → AllByRecursion (λ r. in_cycle cycle r ≡ true) rs
-no_misfit cycle [] e = tt
-no_misfit cycle (r ∷ rs) e =
-    ⊎_elim
-    (λ good. (good, no_misfit cycle rs (mapped_none _ _ (sym (cond-true (in_cycle cycle r) _ _ good) ∙ e))))
-    (λ bad. absurd (some_place (sym (cond-false (in_cycle cycle r) _ _ bad) ∙ e)))
-    (cases_Bool (in_cycle cycle r))
+unfolding first_failing
+no_misfit cycle rs e =
+    let fails : Record → Bool = λ r. not (in_cycle cycle r) in
+    let all : length rs ≤ position_or_len fails rs = grind (arith, nat_tests) in
+    All-from_get_or (λ r. in_cycle cycle r ≡ true) rs blank (λ k lt. sym (not-not _) ∙ prefix_len_passes (λ r. not (fails r)) rs k blank (omega arith))
 
 misfit_none : (o : Option ℕ) → misfit_fault o ≡ Ok tt → o ≡ None
 misfit_none None e = refl
-misfit_none (Some i) e = absurd (never e)
-
--- the tests that a duty record of the cycle has passed
-pub record Tested (cycle : ℕ) (r : Record) : Type 0 where
-  pub names : named r.name.bytes ≡ true
-  pub times : timely r.timing ≡ true
-  pub boards : leb r.board most_boards ≡ true
-  pub divides : eqb (cycle % r.timing.spacing) 0 ≡ true
-
-pub tested : (cycle : ℕ) (r : Record) → in_cycle cycle r ≡ true → Tested cycle r
-tested cycle r e =
-    let a = and_parts (duty_record r) (eqb (cycle % r.timing.spacing) 0) e in
-    let b = and_parts (named r.name.bytes) (timely r.timing && leb r.board most_boards) a.0 in
-    let c = and_parts (timely r.timing) (leb r.board most_boards) b.1 in
-    record { names = b.0; times = c.0; boards = c.1; divides = a.1 }
+misfit_none (Some i) e = cc
 
 -- its numbers fit their columns
 fitting : (cycle : ℕ) (r : Record) → in_cycle cycle r ≡ true → Fitting r
-fitting cycle r e =
-    let d = r.timing in
-    let t = tested cycle r e in
-    let a = and_parts (leb 1 d.cost) _ t.times in
-    let b = and_parts (leb d.cost d.deadline) _ a.1 in
-    let c = and_parts (leb d.deadline d.spacing) (leb d.spacing longest) b.1 in
-    let feasible = leb-true d.cost d.deadline b.0 in
-    let constrained = leb-true d.deadline d.spacing c.0 in
-    let bounded = leb-true d.spacing longest c.1 in
-    record { cost = omega arith; deadline = omega arith; spacing = bounded; board = leb-true r.board most_boards t.boards }
+fitting cycle r e = record {
+  cost = grind (arith, nat_tests);
+  deadline = grind (arith, nat_tests);
+  spacing = grind (arith, nat_tests);
+  board = grind (arith, nat_tests);
+}
 
 module _ (h : Head) (rs : List Record) (ok : records_fault h rs ≡ Ok tt) where
   passed : (ltb (length rs) h.duties ≡ false) × (misfit_fault (first_misfit h.cycle (take h.duties rs)) ≡ Ok tt)

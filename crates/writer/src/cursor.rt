@@ -1,13 +1,14 @@
 // A writer over lent memory, with methods for a field, a line and a whole text.
-ghost use Rattle.std.specs.Prelude.{◌≡◌, ◌+◌, ◌-◌, ◌*◌, ◌^◌, ◌<◌, ◌≤◌, length};
+ghost use Rattle.std.specs.Prelude.{◌≡◌, ◌+◌, ◌-◌, ◌*◌, ◌^◌, ◌<◌, ◌≤◌, [], ◌∷◌, length};
 ghost use Rattle.std.specs.List.{flat_map, AllByRecursion};
 ghost use Rattle.duty.specs.Heads.{head};
 ghost use Rattle.duty.specs.Limits.{most_boards};
 ghost use Rattle.columns.specs.Forms.{line_width};
-ghost use Rattle.columns.specs.Layout.{width, header_width};
-ghost use Rattle.columns.specs.Numerals.{widest};
-ghost use Rattle.columns.specs.Texts.{line_text, text, text_length};
-ghost use Rattle.writer.specs.Puts.{put, put_bytes, put_number, put_end, put_header, put_board, put_line, Fitting, Sized};
+ghost use Rattle.columns.specs.Layout.{width, header_width, board_field};
+ghost use Rattle.columns.specs.Lines.{newline};
+ghost use Rattle.columns.specs.Numerals.{widest, justified};
+ghost use Rattle.columns.specs.Texts.{header_text, board_text, line_text, text, text_length};
+ghost use Rattle.writer.specs.Puts.{Wrote, Placed, Appended, Fitting, Sized};
 ghost use Rattle.writer.specs.Written.{whole};
 
 use columns::{
@@ -16,6 +17,9 @@ use columns::{
 use duty::{Header, Record};
 
 // Where the next line goes: `pos` is the place of its first byte.
+// `out` stays whole, with a place beside it: if a method kept the rest of it alone, a clause would have to say what
+// is lent on, and such a clause is proved by hand alone. Each method needs another amount of room: so clauses ask
+// for it, and no field of the type.
 #[derive(Drop)]
 pub(crate) struct Writer<'a> {
     out: &'a mut [u8],
@@ -25,20 +29,16 @@ pub(crate) struct Writer<'a> {
 impl<'a> Writer<'a> {
     // A writer at the first byte of the memory.
     pub(crate) fn new(out: &'a mut [u8]) -> Writer<'a>
-        ensures value { result.out.now ≡ out.old }
-        ensures start { result.pos ≡ 0 }
-        ensures same { result.out.ghost_name ≡ out.entry.ghost_name }
+        ensures { result ≡ record { out = out.entry; pos = 0 } }
     {
         Writer { out, pos: 0 }
     }
 
     // Puts bytes from a column of the line on.
+    #[tactic(auto, using(std::proofs::lemmas::Slice::overwrites), unfolding(crate::specs::Puts::put))]
     fn bytes(&mut self, first: usize, bytes: &[u8])
         requires { (1 ≤ first) × (self.old.pos + (first - 1) + length bytes.now ≤ length self.old.out.now) }
-        ensures value { self.new.out.now ≡ put_bytes self.old.pos first bytes.now self.old.out.now }
-        ensures long { length self.new.out.now ≡ length self.old.out.now }
-        ensures stays { self.new.pos ≡ self.old.pos }
-        ensures same { self.new.out.ghost_name ≡ self.old.out.ghost_name }
+        ensures { Placed first bytes.now self.old self.new }
     {
         let at = self.pos + (first - 1);
         self.out[at..at + bytes.len()].copy_from_slice(bytes);
@@ -49,10 +49,7 @@ impl<'a> Writer<'a> {
         requires columns { (1 ≤ field.first) × ((field.first ≤ field.last) × (width field ≤ widest)) }
         requires room { self.old.pos + field.last ≤ length self.old.out.now }
         requires fits { n < 10 ^ width field }
-        ensures value { self.new.out.now ≡ put_number self.old.pos field n self.old.out.now }
-        ensures long { length self.new.out.now ≡ length self.old.out.now }
-        ensures stays { self.new.pos ≡ self.old.pos }
-        ensures same { self.new.out.ghost_name ≡ self.old.out.ghost_name }
+        ensures { Placed field.first (justified (width field) n) self.old self.new }
     {
         let at = self.pos + (field.first - 1);
         let width = field.last - (field.first - 1);
@@ -62,10 +59,7 @@ impl<'a> Writer<'a> {
     // Puts the end byte after the line's last column, and moves on to the next line.
     fn end(&mut self, width: usize)
         requires { self.old.pos + (width + 1) ≤ length self.old.out.now }
-        ensures value { self.new.out.now ≡ put_end self.old.pos width self.old.out.now }
-        ensures long { length self.new.out.now ≡ length self.old.out.now }
-        ensures moves { self.new.pos ≡ self.old.pos + (width + 1) }
-        ensures same { self.new.out.ghost_name ≡ self.old.out.ghost_name }
+        ensures { Wrote (self.old.pos + width) (newline ∷ []) (self.old.pos + (width + 1)) self.old self.new }
     {
         self.bytes(width + 1, b"\n");
         self.pos += width + 1;
@@ -74,13 +68,10 @@ impl<'a> Writer<'a> {
     // Puts a header's line.
     fn header(&mut self, form: Form, header: &Header)
         requires { self.old.pos + (header_width + 1) ≤ length self.old.out.now }
-        ensures value { self.new.out.now ≡ put_header form (head header.now) self.old.pos self.old.out.now }
-        ensures long { length self.new.out.now ≡ length self.old.out.now }
-        ensures moves { self.new.pos ≡ self.old.pos + (header_width + 1) }
-        ensures same { self.new.out.ghost_name ≡ self.old.out.ghost_name }
+        ensures { Appended (header_text form (head header.now)) self.old self.new }
     {
         self.bytes(1, &form.word());
-        self.bytes(LETTER_COLUMN, &[header.letter().byte()]);
+        self.bytes(LETTER_COLUMN, &[u8::from(header.letter())]);
         self.number(BOARDS, header.boards() as u32);
         self.number(DUTIES, header.duties() as u32);
         self.number(CYCLE, header.cycle());
@@ -88,17 +79,15 @@ impl<'a> Writer<'a> {
     }
 
     // Puts the board of a plan line; a table line has none.
-    fn board(&mut self, form: Form, board: u8)
-        requires fits { board ≤ most_boards }
+    #[tactic(auto, using(crate::proofs::Parts::put_nothing))]
+    fn board(&mut self, form: Form, row: &Record)
+        requires fits { row.now.board ≤ most_boards }
         requires room { self.old.pos + (line_width form + 1) ≤ length self.old.out.now }
-        ensures value { self.new.out.now ≡ put_board form board self.old.pos self.old.out.now }
-        ensures long { length self.new.out.now ≡ length self.old.out.now }
-        ensures stays { self.new.pos ≡ self.old.pos }
-        ensures same { self.new.out.ghost_name ≡ self.old.out.ghost_name }
+        ensures { Placed board_field.first (board_text form row.now) self.old self.new }
     {
         match form {
             Form::Table => {}
-            Form::Plan => self.number(BOARD, board as u32),
+            Form::Plan => self.number(BOARD, row.board as u32),
         }
     }
 
@@ -106,17 +95,14 @@ impl<'a> Writer<'a> {
     fn line(&mut self, form: Form, row: &Record)
         requires fits { Fitting row.now }
         requires room { self.old.pos + (line_width form + 1) ≤ length self.old.out.now }
-        ensures value { self.new.out.now ≡ put_line form row.now self.old.pos self.old.out.now }
+        ensures wrote { Appended (line_text form row.now) self.old self.new }
         ensures sized { Sized row.now }
-        ensures long { length self.new.out.now ≡ length self.old.out.now }
-        ensures moves { self.new.pos ≡ self.old.pos + (line_width form + 1) }
-        ensures same { self.new.out.ghost_name ≡ self.old.out.ghost_name }
     {
         self.bytes(1, &row.name.bytes);
         self.number(COST, row.timing.cost);
         self.number(DEADLINE, row.timing.deadline);
         self.number(SPACING, row.timing.spacing);
-        self.board(form, row.board);
+        self.board(form, row);
         self.end(form.line_width());
     }
 
@@ -124,12 +110,8 @@ impl<'a> Writer<'a> {
     fn lines(&mut self, form: Form, records: &[Record])
         requires fits { AllByRecursion Fitting records.now }
         requires room { self.old.pos + (line_width form + 1) * length records.now ≤ length self.old.out.now }
-        ensures value { self.new.out.now ≡ put self.old.pos (flat_map (line_text form) records.now) self.old.out.now }
-        ensures full { length (flat_map (line_text form) records.now) ≡ (line_width form + 1) * length records.now }
+        ensures wrote { Appended (flat_map (line_text form) records.now) self.old self.new }
         ensures sized { AllByRecursion Sized records.now }
-        ensures long { length self.new.out.now ≡ length self.old.out.now }
-        ensures moves { self.new.pos ≡ self.old.pos + (line_width form + 1) * length records.now }
-        ensures same { self.new.out.ghost_name ≡ self.old.out.ghost_name }
     {
         for row in records {
             self.line(form, row);
@@ -140,12 +122,8 @@ impl<'a> Writer<'a> {
     pub(crate) fn sheet(&mut self, form: Form, header: &Header, records: &[Record])
         requires fits { AllByRecursion Fitting records.now }
         requires room { self.old.pos + text_length form (length records.now) ≤ length self.old.out.now }
-        ensures value { self.new.out.now ≡ put self.old.pos (text form (whole (head header.now) records.now)) self.old.out.now }
-        ensures full { length (text form (whole (head header.now) records.now)) ≡ text_length form (length records.now) }
+        ensures wrote { Appended (text form (whole (head header.now) records.now)) self.old self.new }
         ensures sized { AllByRecursion Sized records.now }
-        ensures long { length self.new.out.now ≡ length self.old.out.now }
-        ensures moves { self.new.pos ≡ self.old.pos + text_length form (length records.now) }
-        ensures same { self.new.out.ghost_name ≡ self.old.out.ghost_name }
     {
         self.header(form, header);
         self.lines(form, records);

@@ -6,4 +6,4 @@ mod cursor;
 mod tests;
 mod texts;
 
-pub use texts::{write_plan, write_table};
+pub use texts::write;

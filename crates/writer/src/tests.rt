@@ -1,7 +1,8 @@
 // A worked example, and each refusal.
-use super::{write_plan, write_table};
+use super::write;
+use columns::Form;
 use duty::{Header, Letter, Name, Record, Timing};
-use fault::{Cause, Fault, Layer};
+use fault::{Cause, Fault};
 use std::test::Fail;
 
 fn row(name: &[u8; 8], cost: u32, deadline: u32, spacing: u32, board: u8) -> Record {
@@ -25,18 +26,15 @@ fn rows() -> [Record; 4] {
     ]
 }
 
-fn header() -> Option<Header> {
-    Header::new(Letter::Slope, 2, 4, 120)
+fn header() -> Result<Header, Fail> {
+    Header::new(Letter::Slope, 2, 4, 120).ok_or_else(|| Fail::new("a header outside its limits"))
 }
 
 #[test]
 fn plan_text(rt: HostRuntime) -> Result<(), Fail> {
-    let Some(header) = header() else {
-        assert!(rt; false);
-        return Ok(());
-    };
+    let header = header()?;
     let mut out = [b'.'; 168];
-    let length = write_plan(&header, &rows(), &mut out);
+    let length = write(Form::Plan, &header, &rows(), &mut out);
     assert!(rt; length == Ok(165));
     assert!(rt;
         out == *b"PLAN S  2  4     120\nSHADES         4      12      24  1\nGREAT          2       5      10  1\nSWELL          3       6      12  1\nPEDAL          2       8      20  2\n..."
@@ -46,12 +44,9 @@ fn plan_text(rt: HostRuntime) -> Result<(), Fail> {
 
 #[test]
 fn table_text(rt: HostRuntime) -> Result<(), Fail> {
-    let Some(header) = header() else {
-        assert!(rt; false);
-        return Ok(());
-    };
+    let header = header()?;
     let mut out = [b'.'; 154];
-    let length = write_table(&header, &rows(), &mut out);
+    let length = write(Form::Table, &header, &rows(), &mut out);
     assert!(rt; length == Ok(153));
     assert!(rt;
         out == *b"RELAYS  2  4     120\nSHADES         4      12      24\nGREAT          2       5      10\nSWELL          3       6      12\nPEDAL          2       8      20\n."
@@ -61,55 +56,31 @@ fn table_text(rt: HostRuntime) -> Result<(), Fail> {
 
 #[test]
 fn output_short(rt: HostRuntime) -> Result<(), Fail> {
-    let Some(header) = header() else {
-        assert!(rt; false);
-        return Ok(());
-    };
+    let header = header()?;
     let mut out = [b'.'; 164];
-    let refused = Fault {
-        cause: Cause::OutputShort,
-        line: 0,
-        column: 0,
-        layer: Layer::Call,
-    };
-    assert!(rt; write_plan(&header, &rows(), &mut out) == Err(refused));
+    let refused = Fault::of_call(Cause::OutputShort);
+    assert!(rt; write(Form::Plan, &header, &rows(), &mut out) == Err(refused));
     assert!(rt; out == [b'.'; 164]);
     Ok(())
 }
 
 #[test]
 fn too_few_records(rt: HostRuntime) -> Result<(), Fail> {
-    let Some(header) = header() else {
-        assert!(rt; false);
-        return Ok(());
-    };
+    let header = header()?;
     let mut out = [b'.'; 200];
     let rows = rows();
-    let refused = Fault {
-        cause: Cause::RecordsShort,
-        line: 1,
-        column: 10,
-        layer: Layer::Call,
-    };
-    assert!(rt; write_plan(&header, &rows[0..3], &mut out) == Err(refused));
+    let refused = Fault::of_call(Cause::RecordsShort).at(1, 10);
+    assert!(rt; write(Form::Plan, &header, &rows[0..3], &mut out) == Err(refused));
     Ok(())
 }
 
 #[test]
 fn last_record_bad(rt: HostRuntime) -> Result<(), Fail> {
-    let Some(header) = header() else {
-        assert!(rt; false);
-        return Ok(());
-    };
+    let header = header()?;
     let mut out = [b'.'; 200];
     let mut rows = rows();
     rows[3].board = 17;
-    let refused = Fault {
-        cause: Cause::NotADuty,
-        line: 5,
-        column: 25,
-        layer: Layer::Call,
-    };
-    assert!(rt; write_table(&header, &rows, &mut out) == Err(refused));
+    let refused = Fault::of_call(Cause::NotADuty).at(5, 25);
+    assert!(rt; write(Form::Table, &header, &rows, &mut out) == Err(refused));
     Ok(())
 }
