@@ -58,7 +58,8 @@ fn line_up<'a>(records: &[Record], scratch: &'a mut [Lined]) -> Heap<'a, Lined>
 {
     let mut heap = Heap::new(scratch);
     for (index, record) in records.iter().enumerate() {
-        heap.push(Lined {
+        // There is room for every record.
+        let _ = heap.push(Lined {
             record: *record,
             index,
         });

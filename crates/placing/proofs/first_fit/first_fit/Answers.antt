@@ -33,15 +33,8 @@ loop-next-init g c =
       named = refl;
     }
 
-pub place_one-requires : goal.place_one-requires
-place_one-requires g c =
-    let n = length c.args.records.now in
-    let first = (all_shuffled (λ e. e.index < n) _ _ c.in-Some.ensures.removed.others c.loop-next.invariant.within).0 in
-    record { few = omega arith; within = omega (arith, first) }
-
 pub loop-next-smaller : goal.loop-next-smaller
-loop-next-smaller g c =
-    let l = length_permutation _ _ c.in-Some.ensures.removed.others in omega (arith, l)
+loop-next-smaller g c = omega (arith, length_permutation _ _ c.in-Some.ensures.removed.others)
 
 pub loop-next-preserved : goal.loop-next-preserved
 loop-next-preserved g c =

@@ -3,13 +3,6 @@ use Rattle.duty.specs.Heads.{head}
 use Rattle.placing.proofs.Whole.{past_part, placed_law, within_time, no_fault, answer_is, after_is}
 use Rattle.placing.proofs.places.place.Goals as goal
 
-pub first_fit-requires : goal.first_fit-requires
-first_fit-requires g c =
-    let h = c.args.header.now in
-    let n = c.duties-duties.ensures in
-    let few = length-take c.duties-duties.result c.args.records.now in
-    record { few = omega (arith, few, n, h.few_duties); fits = omega (arith, few, c.if-scratch-duties.false) }
-
 pub returns : goal.returns
 returns g c =
     let h = c.args.header.now in
