@@ -1,5 +1,4 @@
-use Rattle.std.proofs.Common.{◌≡◌, ◌<◌, ◌≤◌, [], length, sym, refl, ap, ◌∙◌, subst, arith, rules, ℕ}
-use Rattle.std.specs.List.Sorted.{IsPermutation}
+use Rattle.std.proofs.Common.{◌≡◌, ◌<◌, [], length, sym, refl, ap, ◌∙◌, subst, arith, rules, ℕ}
 use Rattle.std.proofs.lemmas.List.{nil_from_length}
 use Rattle.std.proofs.lemmas.List.Sorted.{length_permutation}
 use Rattle.std.proofs.ByRecursion.{all_shuffled}
@@ -7,9 +6,8 @@ use Rattle.heap.specs.Held.{held, memory}
 use Rattle.heap.proofs.Draining.{none_left}
 use Rattle.placing.specs.FirstFit.{placed}
 use Rattle.placing.specs.Order.{lined, taken}
-use Rattle.placing.specs.Outcome.{placed_answer, first_fit}
+use Rattle.placing.specs.Outcome.{placed_answer}
 use Rattle.placing.specs.Scratch.{Past}
-use Rattle.placing.proofs.Clearing.{length_cleared}
 use Rattle.placing.proofs.Taking.{indices_below, taken_shuffled, length_lined, goes_on, stops, past_is, past_on}
 use Rattle.placing.proofs.first_fit.first_fit.Goals as goal
 

@@ -48,14 +48,14 @@ returns g c =
     let end : (seat c.loop-b-test.records i 0 ≡ seat rs i 0) × (fit passes boards cycle rs i ≡ 0) =
     elim c.loop-b-test.branch [
       | else-loop-b-test w ↦
-        let k : boards + 1 - l.b ≡ 0 = omega arith in
-        (ap (λ xs. seat xs i 0) w.records-is ∙ l.invariant.moved 0, sym l.invariant.left ∙ ap (lowest (takes passes cycle rs i) l.b) k)
+          let k : boards + 1 - l.b ≡ 0 = omega arith in
+          (ap (λ xs. seat xs i 0) w.records-is ∙ l.invariant.moved 0, sym l.invariant.left ∙ ap (lowest (takes passes cycle rs i) l.b) k)
       | then-loop-b-test+else-board_passes+else-b-b-end w ↦
-        let off : takes passes cycle rs i l.b ≡ false =
-        tried passes rs l.records i l.b _ cycle _ (omega arith) (l.invariant.moved l.b) w.cycle.ensures w.board_passes.ensures ∙ w.if-board_passes.false in (
-          ap (λ xs. seat xs i 0) w.records-is ∙ seat_again l.records i l.b 0 (omega arith) ∙ l.invariant.moved 0,
-          sym l.invariant.left ∙ lowest_next (takes passes cycle rs i) l.b (boards + 1 - l.b) 0 (omega arith) off,
-        )
+          let off : takes passes cycle rs i l.b ≡ false =
+          tried passes rs l.records i l.b _ cycle _ (omega arith) (l.invariant.moved l.b) w.cycle.ensures w.board_passes.ensures ∙ w.if-board_passes.false in (
+            ap (λ xs. seat xs i 0) w.records-is ∙ seat_again l.records i l.b 0 (omega arith) ∙ l.invariant.moved 0,
+            sym l.invariant.left ∙ lowest_next (takes passes cycle rs i) l.b (boards + 1 - l.b) 0 (omega arith) off,
+          )
     ] in
     record {
       records = end.0 ∙ ap (seat rs i) (sym end.1);

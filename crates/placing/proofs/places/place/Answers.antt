@@ -1,4 +1,4 @@
-use Rattle.std.proofs.Common.{◌++◌, length, drop, ap, ◌∙◌, arith, length-take}
+use Rattle.std.proofs.Common.{◌++◌, length, drop, ap, ◌∙◌}
 use Rattle.duty.specs.Heads.{head}
 use Rattle.placing.proofs.Whole.{past_part, placed_law, within_time, no_fault, answer_is, after_is}
 use Rattle.placing.proofs.places.place.Goals as goal
