@@ -1,12 +1,11 @@
 -- The loop that takes every record off its board.
-use Rattle.std.proofs.Common.{◌≡◌, ℕ, suc, ◌+◌, ◌<◌, ◌≤◌, List, [], ◌∷◌, ◌++◌, length, get_or, take, drop, set, sym, refl, ap, ◌∙◌, append_assoc, append-nil, arith}
-use Rattle.std.proofs.lemmas.List.{take_more_set, drop-set-lt, at_drop_more, at_drop_all, take_all}
+use Rattle.std.proofs.Common.{◌≡◌, ℕ, ◌+◌, ◌<◌, ◌≤◌, List, [], ◌∷◌, ◌++◌, length, get_or, take, drop, set, sym, ap, ◌∙◌, append_assoc, append-nil, arith}
+use Rattle.std.proofs.lemmas.List.{length-map, take_more_set, drop-set-lt, at_drop_more, at_drop_all, take_all}
 use Rattle.duty.specs.declared.records.Record.{Record}
 use Rattle.placing.specs.FirstFit.{moved_to, cleared}
 
 pub length_cleared : (rs : List Record) → length (cleared rs) ≡ length rs
-length_cleared [] = refl
-length_cleared (r ∷ rs) = ap suc (length_cleared rs)
+length_cleared rs = length-map rs (λ r. moved_to r 0)
 
 module _ (rs es : List Record) (i : ℕ) (d : Record) where
   pub clears : i < length rs → take i rs ++ cleared (drop i rs) ≡ es → take (i + 1) (set rs i (moved_to (get_or rs i d) 0)) ++ cleared (drop (i + 1) (set rs i (moved_to (get_or rs i d) 0))) ≡ es

@@ -1,5 +1,5 @@
 -- Which duties still wait, and what a seat changes.
-use Rattle.std.proofs.Common.{◌≡◌, ℕ, zero, suc, ◌+◌, ◌<◌, ◌≤◌, cond, eqb, List, [], ◌∷◌, length, get_or, sum_by, sym, refl, ap, ◌∙◌, ⊎_elim, arith}
+use Rattle.std.proofs.Common.{◌≡◌, ℕ, zero, suc, ◌+◌, ◌<◌, ◌≤◌, cond, eqb, List, [], ◌∷◌, length, get_or, count_by, sym, refl, ap, ◌∙◌, ⊎_elim, arith}
 use Rattle.std.proofs.lemmas.List.{get_or-set_same, get_or-set_other}
 use Rattle.std.proofs.lemmas.List.Sums.{sum_by-cons}
 use Rattle.std.proofs.lemmas.Bool.{cases_eq, cond-true, cond-false, eq-eqb, ne_eqb}
@@ -12,17 +12,14 @@ use Rattle.placing.proofs.Taking.{at_index}
 
 -- how often an index stands among entries
 
-abbrev pub here : ℕ → Lined → ℕ
-here k e = cond (eqb e.index k) 1 0
-
 abbrev pub times : ℕ → List Lined → ℕ
-times k es = sum_by (here k) es
+times k es = count_by (λ e. eqb e.index k) es
 
 pub times_first : (k : ℕ) (e : Lined) (es : List Lined) → e.index ≡ k → times k (e ∷ es) ≡ 1 + times k es
-times_first k e es h = sum_by-cons (here k) e es ∙ ap (λ (n : ℕ). n + times k es) (cond-true _ _ _ (eq-eqb e.index k h))
+times_first k e es h = sum_by-cons (λ (x : Lined). cond (eqb x.index k) 1 0) e es ∙ ap (λ (n : ℕ). n + times k es) (cond-true _ _ _ (eq-eqb e.index k h))
 
 pub times_other : (k : ℕ) (e : Lined) (es : List Lined) → (e.index ≡ k → ⊥) → times k (e ∷ es) ≡ times k es
-times_other k e es h = sum_by-cons (here k) e es ∙ ap (λ (n : ℕ). n + times k es) (cond-false _ _ _ (ne_eqb e.index k h)) ∙ omega arith
+times_other k e es h = sum_by-cons (λ (x : Lined). cond (eqb x.index k) 1 0) e es ∙ ap (λ (n : ℕ). n + times k es) (cond-false _ _ _ (ne_eqb e.index k h)) ∙ omega arith
 
 times_none : (k j : ℕ) (rs : List Record) → k < j → times k (lined j rs) ≡ 0
 times_none k j [] h = refl

@@ -14,7 +14,7 @@ use Rattle.placing.specs.Laws.{Filling, done, seated, stuck, FirstFit}
 use Rattle.placing.specs.Order.{sooner, lined}
 use Rattle.placing.specs.Outcome.{first_fit}
 use Rattle.placing.proofs.Clearing.{length_cleared}
-use Rattle.placing.proofs.Counting.{here, times, times_first, times_other, times_once, cleared_board, cleared_list, cleared_twice, seat_board, seat_other, seat_duties, seat_lists}
+use Rattle.placing.proofs.Counting.{times, times_first, times_other, times_once, cleared_board, cleared_list, cleared_twice, seat_board, seat_other, seat_duties, seat_lists}
 use Rattle.placing.proofs.Lowest.{Found, nowhere, somewhere, LowestIs, NonePass, lowest_found}
 use Rattle.placing.proofs.Seating.{length_seat}
 use Rattle.placing.proofs.Taking.{total, chain, indices_below}
@@ -126,7 +126,7 @@ module _ (passes : List Timing → ℕ → Bool) (boards cycle : ℕ) (rs : List
     long = length_cleared rs;
     each = λ k h.
         inl (
-          sum_by-IsPermutation (here k) (lined 0 (cleared rs)) _ (shuffled_sorted sooner (lined 0 (cleared rs))) ∙ times_once k 0 (cleared rs) (omega arith) (omega (arith, length_cleared rs)),
+          sum_by-IsPermutation (λ (e : Lined). cond (eqb e.index k) 1 0) (lined 0 (cleared rs)) _ (shuffled_sorted sooner (lined 0 (cleared rs))) ∙ times_once k 0 (cleared rs) (omega arith) (omega (arith, length_cleared rs)),
           cleared_board rs k,
         );
     lists = λ b l h. inl (cleared_list rs b l);

@@ -1,9 +1,12 @@
 -- The search for the lowest board that takes a record.
-use Rattle.std.proofs.Common.{◌≡◌, ℕ, zero, suc, ◌+◌, ◌<◌, Bool, true, false, cond, List, length, get_or, set, ap, ◌∙◌, arith, length-set}
+use Rattle.std.proofs.Common.{◌≡◌, ℕ, zero, suc, ◌+◌, ◌<◌, ◌≤◌, Bool, true, false, cond, List, length, get_or, set, sym, ap, ◌∙◌, arith, length-set}
 use Rattle.std.proofs.lemmas.List.{get_or-set_same, set-set}
 use Rattle.duty.specs.declared.records.Record.{Record}
-use Rattle.boards.specs.Lists.{no_record}
-use Rattle.placing.specs.FirstFit.{moved_to, seat, lowest}
+use Rattle.duty.specs.declared.timings.Timing.{Timing}
+use Rattle.duty.specs.Limits.{most_duties}
+use Rattle.boards.specs.Lists.{on_board, no_record, board_passed}
+use Rattle.boards.proofs.Few.{passed_few}
+use Rattle.placing.specs.FirstFit.{moved_to, seat, lowest, takes}
 
 -- the last board that a record was put on counts
 pub seat_again : (rs : List Record) (i b c : ℕ) → i < length rs → seat (seat rs i b) i c ≡ seat rs i c
@@ -23,3 +26,8 @@ lowest_next test b (suc k) m h e =
 
 pub length_seat : (rs : List Record) (i b : ℕ) → length (seat rs i b) ≡ length rs
 length_seat rs i b = length-set rs i (moved_to (get_or rs i no_record) b)
+
+-- the answer t of a trial, in which the record at i of xs, which differ from rs in its board alone, was put on board b
+pub tried : (passes : List Timing → ℕ → Bool) (rs xs : List Record) (i b n cycle : ℕ) (t : Bool) → length xs ≤ most_duties → seat xs i b ≡ seat rs i b → n ≡ cycle → t ≡ board_passed passes (seat xs i b) b n → takes passes cycle rs i b ≡ t
+tried passes rs xs i b n cycle t few same is told =
+    (λ k. passes (on_board b (sym same k)) (sym is k)) ∙ sym (passed_few passes (seat xs i b) b n (omega (arith, length_seat xs i b))) ∙ sym told

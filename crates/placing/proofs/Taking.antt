@@ -1,11 +1,12 @@
 -- The heap of records: how it is filled, and what each record off it does to the plan.
-use Rattle.std.proofs.Common.{◌≡◌, ℕ, suc, ◌+◌, ◌-◌, ◌<◌, ◌≤◌, Bool, true, false, cond, not, eqb, List, [], ◌∷◌, ◌++◌, map, length, get_or, take, drop, Some, Option, sym, refl, ap, ◌∙◌, subst, arith, rules}
+use Rattle.std.proofs.Common.{◌≡◌, ℕ, suc, ◌+◌, ◌-◌, ◌<◌, ◌≤◌, Bool, true, false, cond, eqb, List, [], ◌∷◌, ◌++◌, map, length, get_or, take, drop, Some, None, Ok, Err, Option, Result, sym, refl, ap, ◌∙◌, subst, arith, rules}
 use Rattle.std.specs.List.Sorted.{IsPermutation}
 use Rattle.std.specs.List.{AllByRecursion}
 use Rattle.std.proofs.lemmas.List.{take_more, length-take-le, drop-drop}
-use Rattle.std.proofs.lemmas.Bool.{not-true, not-false, eqb-true}
+use Rattle.std.proofs.lemmas.Bool.{eqb-true}
 use Rattle.std.proofs.lemmas.List.Sorted.{length_permutation, IsPermutation-trans, IsPermutation-to_front, IsPermutation-cons}
 use Rattle.std.proofs.ByRecursion.{all_shuffled}
+use Rattle.fault.specs.declared.Fault.{Fault}
 use Rattle.duty.specs.declared.records.Record.{Record}
 use Rattle.duty.specs.declared.timings.Timing.{Timing}
 use Rattle.heap.specs.Sorted.{sorted, keys_in_order}
@@ -13,6 +14,7 @@ use Rattle.heap.proofs.Sorting.{keys_any_order}
 use Rattle.placing.specs.declared.lined.Lined.{Lined}
 use Rattle.placing.specs.FirstFit.{seat, fit, placed}
 use Rattle.placing.specs.Order.{sooner, lined_key, lined, taken}
+use Rattle.placing.specs.Outcome.{placed_answer}
 use Rattle.placing.specs.Scratch.{Past}
 
 -- the order is total
@@ -50,7 +52,7 @@ taken_shuffled xs ys w =
 abbrev pub at_index : Record → ℕ → Lined
 at_index r i = record { «record» = r; index = i }
 
-length_lined : (j : ℕ) (rs : List Record) → length (lined j rs) ≡ length rs
+pub length_lined : (j : ℕ) (rs : List Record) → length (lined j rs) ≡ length rs
 length_lined j [] = refl
 length_lined j (r ∷ rs) = ap suc (length_lined (j + 1) rs)
 
@@ -83,31 +85,39 @@ lined_below j n (r ∷ rs) h = (omega arith, lined_below (j + 1) n rs (omega ari
 pub indices_below : (rs : List Record) (n : ℕ) (es : List Lined) → length rs ≡ n → IsPermutation (lined 0 rs) es → AllByRecursion (λ e. e.index < n) es
 indices_below rs n es e w = all_shuffled (λ e. e.index < n) _ es w (lined_below 0 n rs (omega arith))
 
+-- what the answer to one record says of whether it fits a board
+
+placed_where : (t : Bool) (i : ℕ) {x : Unit {0}} → placed_answer (cond t (Some i) None) ≡ Ok x → t ≡ false
+placed_where true i e = cc
+placed_where false i e = refl
+
+stuck_where : (t : Bool) (i : ℕ) {f : Fault} → placed_answer (cond t (Some i) None) ≡ Err f → t ≡ true
+stuck_where true i e = refl
+stuck_where false i e = cc
+
 -- placing the next: what is left, placed over the records as they stand, gives the whole
 
 module _ (passes : List Timing → ℕ → Bool) (boards cycle : ℕ) (rs : List Record) (es fs : List Lined) (e : Lined) (whole : List Record × Option ℕ) (leaves : keys_in_order lined_key sooner es ≡ lined_key e ∷ keys_in_order lined_key sooner fs) (left : placed passes boards cycle rs (taken es) ≡ whole) where
   first_of : placed passes boards cycle rs (e.index ∷ taken fs) ≡ whole
   first_of = ap (placed passes boards cycle rs) (sym (taken_first es fs e leaves)) ∙ left
 
-  pub goes_on : (after : List Record) → true ≡ not (eqb (fit passes boards cycle rs e.index) 0) → after ≡ seat rs e.index (fit passes boards cycle rs e.index) → placed passes boards cycle after (taken fs) ≡ whole
-  goes_on after ok is =
-      let fits : eqb (fit passes boards cycle rs e.index) 0 ≡ false = not-true _ (sym ok) in
+  pub goes_on : (after : List Record) (answer : Result (Unit {0}) Fault) (x : Unit {0}) → answer ≡ placed_answer (cond (eqb (fit passes boards cycle rs e.index) 0) (Some e.index) None) → answer ≡ Ok x → after ≡ seat rs e.index (fit passes boards cycle rs e.index) → placed passes boards cycle after (taken fs) ≡ whole
+  goes_on after answer x told ok is =
+      let fits : eqb (fit passes boards cycle rs e.index) 0 ≡ false = placed_where _ e.index (sym told ∙ ok) in
       ap (λ xs. placed passes boards cycle xs (taken fs)) is
       ∙ sym (ap (λ t. cond t (seat rs e.index 0, Some e.index) (placed passes boards cycle (seat rs e.index (fit passes boards cycle rs e.index)) (taken fs))) fits)
       ∙ first_of
 
-  pub stops : (after : List Record) → false ≡ not (eqb (fit passes boards cycle rs e.index) 0) → after ≡ seat rs e.index (fit passes boards cycle rs e.index) → (after, Some e.index) ≡ whole
-  stops after ok is =
-      let none : eqb (fit passes boards cycle rs e.index) 0 ≡ true = not-false _ (sym ok) in
-      let here : after ≡ seat rs e.index 0 = is ∙ ap (seat rs e.index) (eqb-true _ 0 none) in
-      ap {B = List Record × Option ℕ} (λ xs. (xs, Some e.index)) here
-      ∙ sym (ap (λ t. cond t (seat rs e.index 0, Some e.index) (placed passes boards cycle (seat rs e.index (fit passes boards cycle rs e.index)) (taken fs))) none)
-      ∙ first_of
+  pub stops : (after : List Record) (answer : Result (Unit {0}) Fault) (f : Fault) → answer ≡ placed_answer (cond (eqb (fit passes boards cycle rs e.index) 0) (Some e.index) None) → answer ≡ Err f → after ≡ seat rs e.index (fit passes boards cycle rs e.index) → (after ≡ whole.0) × (answer ≡ placed_answer whole.1)
+  stops after answer f told bad is =
+      let none : eqb (fit passes boards cycle rs e.index) 0 ≡ true = stuck_where _ e.index (sym told ∙ bad) in
+      let end : (seat rs e.index 0, Some e.index) ≡ whole =
+      sym (ap (λ t. cond t (seat rs e.index 0, Some e.index) (placed passes boards cycle (seat rs e.index (fit passes boards cycle rs e.index)) (taken fs))) none) ∙ first_of in (
+        is ∙ ap (seat rs e.index) (eqb-true _ 0 none) ∙ ap (λ r. r.0) end,
+        told ∙ ap (λ t. placed_answer (cond t (Some e.index) None)) none ∙ ap (λ r. placed_answer r.1) end,
+      )
 
 -- the memory past what was ever held
-
-pub past_self : (n : ℕ) (xs : List Lined) → Past n xs xs
-past_self n xs = record { long = refl; rest = refl }
 
 pub past_on : (n k : ℕ) (xs ys zs : List Lined) → k ≤ n → Past n xs ys → length zs ≡ length ys → drop k zs ≡ drop k ys → Past n xs zs
 past_on n k xs ys zs le p long rest =
@@ -118,8 +128,3 @@ past_on n k xs ys zs le p long rest =
 
 pub past_is : (n : ℕ) (xs ys zs : List Lined) → Past n xs ys → zs ≡ ys → Past n xs zs
 past_is n xs ys zs p e = subst (λ l. Past n xs l) (sym e) p
-
-pub past_then : (n k : ℕ) (xs ws ys zs : List Lined) → ws ≡ xs → k ≡ n → Past n ws ys → Past k ys zs → Past n xs zs
-past_then n k xs ws ys zs same e p q =
-    let rest : drop n zs ≡ drop n ys = ap (λ (m : ℕ). drop m zs) (sym e) ∙ q.rest ∙ ap (λ (m : ℕ). drop m ys) e in
-    record { long = q.long ∙ p.long ∙ ap length same; rest = rest ∙ p.rest ∙ ap (drop n) same }

@@ -1,5 +1,5 @@
 -- Placing as a whole: past the checks, the header's records are placed by first-fit.
-use Rattle.std.proofs.Common.{◌≡◌, ℕ, ◌-◌, ◌≤◌, Bool, true, ltb, List, ◌++◌, length, take, drop, Ok, Err, Option, Result, sym, ap, ◌∙◌, subst, ⊎_elim, arith}
+use Rattle.std.proofs.Common.{◌≡◌, ℕ, ◌≤◌, Bool, true, ltb, List, ◌++◌, length, take, drop, Ok, Err, Option, Result, sym, ap, ◌∙◌, subst, ⊎_elim, arith}
 use Rattle.std.proofs.lemmas.List.{length-take-le, take_at}
 use Rattle.std.proofs.lemmas.Bool.{cond-false, le-ltb, ltb-false}
 use Rattle.fault.specs.declared.Fault.{Fault}
@@ -23,32 +23,23 @@ module _ (h : Head) (rs : List Record) (room d : ℕ) (good : Ok tt ≡ records_
   fine : place_fault h rs room ≡ Ok tt
   fine = then_ok _ (sym good) ∙ cond-false _ _ _ (le-ltb room h.duties (omega arith))
 
-  cut : take (d - 0) rs ≡ take h.duties rs
-  cut = ap (λ (k : ℕ). take k rs) (omega arith)
-
-  pub part_long : length (take (d - 0) rs) ≡ h.duties
-  part_long = ap length cut ∙ length-take-le h.duties rs (enough h rs good)
+  part_long : length (take d rs) ≡ h.duties
+  part_long = length-take-le d rs (omega (arith, enough h rs good)) ∙ is
 
   pub no_fault : (f : Fault) → place_fault h rs room ≡ Err f → ⊥
   no_fault f e = never (sym e ∙ fine)
 
-  pub past_part : (xs ys : List Lined) → Past (length (take (d - 0) rs)) xs ys → Past h.duties xs ys
+  pub past_part : (xs ys : List Lined) → Past (length (take d rs)) xs ys → Past h.duties xs ys
   past_part xs ys p = subst (λ (k : ℕ). Past k xs ys) part_long p
 
-  module _ (passes : List Timing → ℕ → Bool) (boards cycle : ℕ) (b : boards ≡ h.boards) (n : cycle ≡ h.cycle) where
-    whole : first_fit passes boards cycle (take (d - 0) rs) ≡ first_fit passes h.boards h.cycle (take h.duties rs)
-    whole =
-        ap (λ (k : ℕ). first_fit passes k cycle (take (d - 0) rs)) b
-        ∙ ap (λ (k : ℕ). first_fit passes h.boards k (take (d - 0) rs)) n
-        ∙ ap (first_fit passes h.boards h.cycle) cut
+  module _ (passes : List Timing → ℕ → Bool) where
+    pub answer_is : placed_answer (first_fit passes h.boards h.cycle (take d rs)).1 ≡ place_answer passes h rs room
+    answer_is =
+        ap (λ (k : ℕ). placed_answer (first_fit passes h.boards h.cycle (take k rs)).1) is ∙ sym (then_ok _ fine)
 
-    pub answer_is : placed_answer (first_fit passes boards cycle (take (d - 0) rs)).1 ≡ place_answer passes h rs room
-    answer_is = ap (λ r. placed_answer r.1) whole ∙ sym (then_ok _ fine)
-
-    pub after_is : (first_fit passes boards cycle (take (d - 0) rs)).0 ++ drop (d - 0) rs ≡ place_after passes h rs room
+    pub after_is : (first_fit passes h.boards h.cycle (take d rs)).0 ++ drop d rs ≡ place_after passes h rs room
     after_is =
-        let e : d - 0 ≡ h.duties = omega arith in
-        (λ i. (whole i).0 ++ drop (e i) rs) ∙ sym (ap (λ m. placed_by m passes h rs) fine)
+        ap (λ (k : ℕ). (first_fit passes h.boards h.cycle (take k rs)).0 ++ drop k rs) is ∙ sym (ap (λ m. placed_by m passes h rs) fine)
 
 -- the law of a placing that got past its checks
 pub placed_law : (passes : List Timing → ℕ → Bool) (h : Head) (rs after : List Record) (room : ℕ) (r : Result (Unit {0}) Fault) → r ≡ place_answer passes h rs room → after ≡ place_after passes h rs room → place_fault h rs room ≡ Ok tt → PlacedLaw passes h.boards h.cycle h.duties rs after r

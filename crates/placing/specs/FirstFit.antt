@@ -1,5 +1,5 @@
 -- First-fit: the boards are tried from 1 up, and the first that still passes with the duty on it takes the duty.
-use Rattle.std.specs.Prelude.{ℕ, zero, suc, ◌+◌, Bool, cond, List, [], ◌∷◌, Some, None, Option, ◌==◌, slice_index_or, slice_set}
+use Rattle.std.specs.Prelude.{ℕ, zero, suc, ◌+◌, Bool, cond, List, [], ◌∷◌, map, Some, None, Option, ◌==◌, slice_index_or, slice_set}
 use Rattle.duty.specs.declared.records.Record.{Record}
 use Rattle.duty.specs.declared.timings.Timing.{Timing}
 use Rattle.boards.specs.Lists.{on_board, no_record}
@@ -35,5 +35,4 @@ placed passes boards cycle rs (i ∷ is) =
 
 -- records with no board
 abbrev pub cleared : List Record → List Record
-cleared [] = []
-cleared (r ∷ rs) = moved_to r 0 ∷ cleared rs
+cleared rs = map (λ r. moved_to r 0) rs

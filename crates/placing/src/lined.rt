@@ -6,7 +6,7 @@ use duty::Record;
 use heap::Entry;
 
 // A duty record with its index, which orders as its line does.
-#[derive(Clone, Copy)]
+#[derive(Clone, Copy, PartialEq, Eq, Debug)]
 pub struct Lined {
     pub record: Record,
     pub index: usize,
@@ -33,8 +33,6 @@ impl Entry for Lined {
     ghost level = { Prim.search rules };
 
     fn precedes(&self, other: &Lined) -> bool {
-        let mine = self.record.timing.deadline;
-        let theirs = other.record.timing.deadline;
-        mine < theirs || (mine == theirs && self.index <= other.index)
+        (self.record.timing.deadline, self.index) <= (other.record.timing.deadline, other.index)
     }
 }

@@ -10,7 +10,7 @@ use super::first_fit::first_fit;
 use super::lined::Lined;
 use columns::check_records;
 use duty::{Header, Record};
-use fault::{Cause, Fault, Layer};
+use fault::{Cause, Fault};
 use gauge::Gauge;
 
 // Sets every board number of the header's duties to 0, and then places them by first-fit under the
@@ -31,18 +31,7 @@ pub fn place<G: Gauge>(
     check_records(header, records)?;
     let duties = header.duties() as usize;
     if scratch.len() < duties {
-        return Err(Fault {
-            cause: Cause::ScratchShort,
-            line: 0,
-            column: 0,
-            layer: Layer::Call,
-        });
+        return Err(Fault::of_call(Cause::ScratchShort));
     }
-    first_fit(
-        gauge,
-        &mut records[0..duties],
-        header.boards(),
-        header.cycle(),
-        scratch,
-    )
+    first_fit(gauge, header, &mut records[..duties], scratch)
 }

@@ -6,12 +6,7 @@ use placing::Lined;
 use std::process::Abort;
 
 fn untouched(scratch: &[Lined]) -> bool {
-    for entry in scratch {
-        if entry.index != unused().index || entry.record != unused().record {
-            return false;
-        }
-    }
-    true
+    scratch.iter().all(|entry| *entry == unused())
 }
 
 // Shares 0.1, 0.6, 0.6 and 0.5, taken as second, fourth, third: then no board has room. The first,

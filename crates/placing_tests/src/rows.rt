@@ -1,7 +1,7 @@
 // Rows to place: all with spacing 100, under the density gauge at cycle 100. A duty takes the share
 // cost ÷ deadline of its board, and the shares on a board are together at most one.
 use duty::{Header, Letter, Name, Record, Timing};
-use fault::{Cause, Fault, Layer};
+use fault::{Cause, Fault};
 use gauge::Density;
 use placing::{Lined, place};
 
@@ -34,17 +34,10 @@ pub fn attempt(
     records: &mut [Record],
     scratch: &mut [Lined],
 ) -> Option<Result<(), Fault>> {
-    match Header::new(Letter::Density, boards, duties, 100) {
-        Some(header) => Some(place(&Density, &header, records, scratch)),
-        None => None,
-    }
+    let header = Header::new(Letter::Density, boards, duties, 100)?;
+    Some(place(&Density, &header, records, scratch))
 }
 
 pub fn refused(cause: Cause, line: usize, column: usize) -> Option<Result<(), Fault>> {
-    Some(Err(Fault {
-        cause,
-        line,
-        column,
-        layer: Layer::Call,
-    }))
+    Some(Err(Fault::of_call(cause).at(line, column)))
 }

@@ -4,7 +4,7 @@ use Rattle.std.proofs.lemmas.List.{get_or-take, length-take-le}
 use Rattle.std.proofs.lemmas.Bool.{cases_eq, cond-true, cond-false, and_from, and_parts, le-leb, leb-true, ltb-false, le-ltb}
 use Rattle.fault.specs.declared.Fault.{Fault}
 use Rattle.fault.specs.Faults.{then}
-use Rattle.fault.proofs.Steps.{never, then_ok, passed_unless, passed_where}
+use Rattle.fault.proofs.Steps.{then_ok, passed_unless, passed_where}
 use Rattle.duty.specs.declared.records.Record.{Record}
 use Rattle.duty.specs.declared.timings.Timing.{Timing}
 use Rattle.duty.specs.Demand.{demands}
@@ -21,15 +21,15 @@ use Rattle.plans.proofs.Passing.{none_failing, all_passing}
 -- a check that came before a good end was passed
 first_good : {B : Type 0} (m : Result (Unit {0}) Fault) (k : Unit {0} → Result B Fault) (y : B) → then m k ≡ Ok y → (m ≡ Ok tt) × (k tt ≡ Ok y)
 first_good (Ok tt) k y e = (refl, e)
-first_good (Err f) k y e = absurd (never e)
+first_good (Err f) k y e = cc
 
 misfit_none : (o : Option ℕ) → misfit_fault o ≡ Ok tt → o ≡ None
 misfit_none None e = refl
-misfit_none (Some i) e = absurd (never e)
+misfit_none (Some i) e = cc
 
 homeless_none : (o : Option ℕ) → homeless_fault o ≡ Ok tt → o ≡ None
 homeless_none None e = refl
-homeless_none (Some i) e = absurd (never e)
+homeless_none (Some i) e = cc
 
 -- every board from b on passes just where none is refused
 module _ (passes : List Timing → ℕ → Bool) (rs : List Record) (cycle : ℕ) where

@@ -2,7 +2,7 @@
 // takes the share cost ÷ deadline of its board, and the shares on a board are together at most one.
 use super::OpenPlan;
 use duty::{Header, Letter, Name, Record, Timing};
-use fault::{Cause, Fault, Layer};
+use fault::{Cause, Fault};
 use gauge::Density;
 
 fn row(cost: u32, board: u8) -> Record {
@@ -20,28 +20,15 @@ fn row(cost: u32, board: u8) -> Record {
 }
 
 fn refused(cause: Cause, line: usize, column: usize) -> Option<Result<(), Fault>> {
-    Some(Err(Fault {
-        cause,
-        line,
-        column,
-        layer: Layer::Call,
-    }))
+    Some(Err(Fault::of_call(cause).at(line, column)))
 }
 
 // What closing answers for so many boards and duties. The plan is asked twice: a refusal leaves it open.
 fn attempt(boards: u8, duties: u8, records: &mut [Record]) -> Option<Result<(), Fault>> {
-    match Header::new(Letter::Density, boards, duties, 100) {
-        Some(header) => {
-            let plan = OpenPlan::new(header, records);
-            let first = plan.check(&Density);
-            if plan.check(&Density) == first {
-                Some(first)
-            } else {
-                None
-            }
-        }
-        None => None,
-    }
+    let header = Header::new(Letter::Density, boards, duties, 100)?;
+    let plan = OpenPlan::new(header, records);
+    let first = plan.check(&Density);
+    (plan.check(&Density) == first).then_some(first)
 }
 
 #[test]

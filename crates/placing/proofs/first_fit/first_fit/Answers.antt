@@ -1,37 +1,78 @@
-use Rattle.std.proofs.Common.{◌≡◌, ℕ, length, sym, refl, ap, ◌∙◌, subst, arith, rules}
-use Rattle.std.specs.List.Sorted.{IsPermutation}
-use Rattle.std.proofs.lemmas.List.{take_all}
+use Rattle.std.proofs.Common.{◌≡◌, ◌<◌, [], length, sym, refl, ap, ◌∙◌, subst, arith, rules, ℕ}
+use Rattle.std.proofs.lemmas.List.{nil_from_length}
+use Rattle.std.proofs.lemmas.List.Sorted.{length_permutation}
+use Rattle.std.proofs.ByRecursion.{all_shuffled}
 use Rattle.heap.specs.Held.{held, memory}
+use Rattle.heap.proofs.Draining.{none_left}
 use Rattle.placing.specs.FirstFit.{placed}
 use Rattle.placing.specs.Order.{lined, taken}
-use Rattle.placing.specs.Outcome.{placed_answer, first_fit}
+use Rattle.placing.specs.Outcome.{placed_answer}
 use Rattle.placing.specs.Scratch.{Past}
-use Rattle.placing.proofs.Clearing.{length_cleared}
-use Rattle.placing.proofs.Taking.{indices_below, taken_shuffled, filled_length, past_is, past_then}
+use Rattle.placing.proofs.Taking.{indices_below, taken_shuffled, length_lined, goes_on, stops, past_is, past_on}
 use Rattle.placing.proofs.first_fit.first_fit.Goals as goal
 
-pub take_all-requires : goal.take_all-requires
-take_all-requires g c = record {
-  few = omega (arith, c.clear_boards.auto.records);
-  heaped = c.fill.ensures.heaped;
-  within = indices_below c.clear_boards.new.records _ _ refl c.fill.ensures.held;
-}
-
-pub returns : goal.returns
-returns g c =
+pub loop-next-init : goal.loop-next-init
+loop-next-init g c =
     let rs = c.args.records.now in
     let cs = c.clear_boards.new.records in
-    let es = held c.fill.new.heap in
+    let es = held c.line_up-heap.result in
+    let told = c.line_up-heap.ensures in
     let passes = g.G.Gauge.passed c.args.gauge.now in
-    let whole : placed passes c.args.boards c.args.cycle cs (taken es) ≡ first_fit passes c.args.boards c.args.cycle rs =
-    ap (placed passes c.args.boards c.args.cycle cs) (sym (taken_shuffled (lined 0 cs) es c.fill.ensures.held))
-    ∙ ap (λ xs. placed passes c.args.boards c.args.cycle xs (taken (lined 0 xs))) c.clear_boards.ensures in
-    let n = length_cleared rs in
-    let count : length es ≡ length rs = filled_length cs (length cs) es (omega arith) (subst (λ l. IsPermutation (lined 0 l) es) (sym (take_all (length cs) cs (omega arith))) c.fill.ensures.held) ∙ ap length c.clear_boards.ensures ∙ n in
-    let past = past_then (length rs) (length es) c.args.scratch.now (memory c.new-heap.result) (memory c.fill.new.heap) (memory c.take_all.new.heap) (ap (λ s. s.now) c.new-heap.ensures.slots) count
-    (subst (λ (k : ℕ). Past k (memory c.new-heap.result) (memory c.fill.new.heap)) (ap length c.clear_boards.ensures ∙ n) c.fill.ensures.memory) c.take_all.ensures.memory in
+    let boards = c.args.header.now.boards in
+    let cycle = c.args.header.now.cycle in
+    let n : length cs ≡ length rs = c.clear_boards.auto.records in
+    let count = length_permutation _ es told.held in
     record {
-      records = c.take_all.ensures.records ∙ ap (λ r. r.0) whole;
-      answer = c.take_all.ensures.answer ∙ ap (λ r. placed_answer r.1) whole;
-      scratch = past_is _ _ _ _ past (search rules);
+      heaped = told.heaped;
+      within = indices_below cs _ es n told.held;
+      few = omega (arith, count, length_lined 0 cs);
+      left = ap (placed passes boards cycle cs) (sym (taken_shuffled (lined 0 cs) es told.held)) ∙ ap (λ xs. placed passes boards cycle xs (taken (lined 0 xs))) c.clear_boards.ensures;
+      past = subst (λ (k : ℕ). Past k c.args.scratch.now (memory c.line_up-heap.result)) n told.memory;
+      named = refl;
+    }
+
+pub loop-next-smaller : goal.loop-next-smaller
+loop-next-smaller g c = omega (arith, length_permutation _ _ c.in-Some.ensures.removed.others)
+
+pub loop-next-preserved : goal.loop-next-preserved
+loop-next-preserved g c =
+    let l = c.loop-next in
+    let told = c.in-Some.ensures in
+    let removed = told.removed in
+    let leaves = told.leaves l.invariant.heaped in
+    let fewer = length_permutation _ _ removed.others in
+    record {
+      heaped = leaves.heaped;
+      within = (all_shuffled (λ e. e.index < length c.args.records.now) _ _ removed.others l.invariant.within).1;
+      few = omega (arith, fewer, l.invariant.few);
+      left = goes_on (g.G.Gauge.passed c.args.gauge.now) _ _ l.records (held l.heap) (held c.pop.new.self) c.in-Some.next _ leaves.in_turn l.invariant.left c.place_one.new.records c.place_one.result _ c.place_one.ensures.answer c.in_ok-place_one.was c.place_one.ensures.records;
+      past = past_on _ (length (held l.heap)) _ (memory l.heap) (memory c.pop.new.self) l.invariant.few l.invariant.past removed.same_room removed.beyond;
+      named = told.named ∙ l.invariant.named;
+    }
+
+-- this one fits no board
+pub returns-in_err-place_one : goal.returns-in_err-place_one
+returns-in_err-place_one g c =
+    let l = c.loop-next in
+    let told = c.in-Some.ensures in
+    let removed = told.removed in
+    let leaves = told.leaves l.invariant.heaped in
+    let end = stops (g.G.Gauge.passed c.args.gauge.now) _ _ l.records (held l.heap) (held c.pop.new.self) c.in-Some.next _ leaves.in_turn l.invariant.left c.place_one.new.records c.place_one.result _ c.place_one.ensures.answer c.in_err-place_one.was c.place_one.ensures.records in
+    record {
+      records = end.0;
+      answer = search (rules, end.1);
+      scratch = past_is _ _ _ _ (past_on _ (length (held l.heap)) _ (memory l.heap) (memory c.pop.new.self) l.invariant.few l.invariant.past removed.same_room removed.beyond) (search rules);
+    }
+
+-- none is left
+pub returns : goal.returns
+returns g c =
+    let l = c.loop-next in
+    let removed = c.in_default.ensures.removed in
+    let empty : held l.heap ≡ [] = nil_from_length (held l.heap) (none_left (held l.heap) removed.which) in
+    let end = ap (λ es. placed (g.G.Gauge.passed c.args.gauge.now) c.args.header.now.boards c.args.header.now.cycle l.records (taken es)) (sym empty) ∙ l.invariant.left in
+    record {
+      records = ap (λ r. r.0) end;
+      answer = ap (λ r. placed_answer r.1) end;
+      scratch = past_is _ _ _ _ (past_on _ (length (held l.heap)) _ (memory l.heap) (memory c.pop.new.self) l.invariant.few l.invariant.past removed.same_room removed.beyond) (search rules);
     }

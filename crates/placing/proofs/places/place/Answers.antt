@@ -1,18 +1,7 @@
-use Rattle.std.proofs.Common.{◌-◌, ◌++◌, length, drop, ap, ◌∙◌, arith, length-take}
+use Rattle.std.proofs.Common.{◌++◌, length, drop, ap, ◌∙◌}
 use Rattle.duty.specs.Heads.{head}
-use Rattle.placing.proofs.Whole.{placed_law, within_time, no_fault, past_part, answer_is, after_is}
+use Rattle.placing.proofs.Whole.{past_part, placed_law, within_time, no_fault, answer_is, after_is}
 use Rattle.placing.proofs.places.place.Goals as goal
-
-pub first_fit-requires : goal.first_fit-requires
-first_fit-requires g c =
-    let h = c.args.header.now in
-    let n = c.duties-duties.ensures in
-    let rs = c.args.records.now in
-    let few = length-take (c.duties-duties.result - 0) rs in
-    record {
-      few = (omega (arith, few, n, h.few_duties), omega (arith, c.boards.ensures, h.few_boards));
-      fits = omega (arith, few, c.if-scratch-duties.false);
-    }
 
 pub returns : goal.returns
 returns g c =
@@ -24,8 +13,8 @@ returns g c =
     let is = c.duties-duties.ensures in
     let fits = c.if-scratch-duties.false in
     let passes = g.G.Gauge.passed c.args.gauge.now in
-    let answer = c.first_fit.ensures.answer ∙ answer_is (head h) rs room d good is fits passes _ _ c.boards.ensures c.cycle.ensures in
-    let after = ap (λ xs. xs ++ drop (d - 0) rs) c.first_fit.ensures.records ∙ after_is (head h) rs room d good is fits passes _ _ c.boards.ensures c.cycle.ensures in
+    let answer = c.first_fit.ensures.answer ∙ answer_is (head h) rs room d good is fits passes in
+    let after = ap (λ xs. xs ++ drop d rs) c.first_fit.ensures.records ∙ after_is (head h) rs room d good is fits passes in
     record {
       answer = answer;
       after = after;

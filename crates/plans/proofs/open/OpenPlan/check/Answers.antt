@@ -1,11 +1,5 @@
 use Rattle.plans.proofs.Deciding.{decides}
 use Rattle.plans.proofs.open.OpenPlan.check.Goals as goal
 
--- src/open.rt:31:5
-pub returns : goal.returns
-returns g c =
-    let plan = c.args.self.now in
-    record {
-      answer = c.check_plan.ensures;
-      law = decides _ _ _ plan.header.few_duties c.check_plan.result c.check_plan.ensures;
-    }
+pub returns-clause-law : goal.returns-clause-law
+returns-clause-law g c = decides _ _ _ c.args.self.now.header.few_duties c.check_plan.result c.check_plan.ensures

@@ -1,9 +1,7 @@
-use Rattle.std.proofs.Common.{refl}
 use Rattle.duty.specs.Heads.{head}
 use Rattle.plans.proofs.Deciding.{only, kept}
 use Rattle.plans.proofs.open.OpenPlan.close.Goals as goal
 
--- src/closed/calls.rt:16:5
 pub invariant_of-result : goal.invariant_of-result
 invariant_of-result g c =
     let plan = c.args.self in
@@ -18,14 +16,7 @@ invariant_of-result g c =
       kept = kept passes (head plan.header) plan.records.now few (g.met.G.Gauge.bounded c.args.gauge) c.requires;
     }
 
--- src/closed/calls.rt:16:5
-pub returns : goal.returns
-returns g c =
+pub returns-clause-closable : goal.returns-clause-closable
+returns-clause-closable g c =
     let plan = c.args.self in
-    record {
-      header = refl;
-      records = refl;
-      named = refl;
-      gauge = refl;
-      closable = only (g.G.Gauge.passed c.args.gauge) (head plan.header) plan.records.now plan.header.few_duties c.requires;
-    }
+    only (g.G.Gauge.passed c.args.gauge) (head plan.header) plan.records.now plan.header.few_duties c.requires
