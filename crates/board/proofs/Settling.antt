@@ -7,7 +7,6 @@ use Rattle.queue.specs.First.{earliest, Foremost}
 use Rattle.queue.specs.Places.{places as width}
 use Rattle.queue.proofs.Foremosts.{foremost}
 use Rattle.model.specs.declared.jobs.Job.{Job}
-use Rattle.model.specs.declared.jobs.Job.TheVariants.{Idle as idle, Waiting as waiting}
 use Rattle.model.specs.declared.calls.Answer.{Answer}
 use Rattle.model.specs.declared.calls.Answer.TheVariants.{Ran as ran}
 use Rattle.model.specs.declared.calls.Call.TheVariants.{Arrive as arrive, Tick as tick, Finish as finish}
@@ -41,9 +40,9 @@ arrive_keeps b p = go (slice_get b.places p)
 pub finish_keeps : (b : Board) (p : ℕ) → KeepsStep b p (step b (finish p))
 finish_keeps b p = go (slice_get b.places p)
   where
-    at : (x : Place) (j : Job) → KeepsStep b p (finishing_job b p x j)
-    at x idle = λ h i. i
-    at x (waiting d u) = λ h i. replaced b p (after b.clock (finish p) x) b.clock h i
+    at : (x : Place) (job : Option Job) → KeepsStep b p (finishing_job b p x j)
+    at x None = λ h i. i
+    at x (Some j) = λ h i. replaced b p (after b.clock (finish p) x) b.clock h i
 
     go : (o : Option Place) → KeepsStep b p (finishing b p o)
     go None = λ h i. i
