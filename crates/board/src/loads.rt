@@ -6,7 +6,6 @@ ghost use Rattle.boards.specs.Lists.{on_board, no_record};
 ghost use Rattle.model.specs.declared.calls.Call.{Call};
 ghost use Rattle.model.specs.Boards.{loaded};
 ghost use Rattle.model.specs.Promises.{Promises};
-ghost use Rattle.model.specs.Queues.{InStep};
 ghost use Rattle.model.specs.Steps.{run as run_of};
 ghost use Rattle.board_state.specs.BoardOf.{board_of};
 ghost use Rattle.board_state.specs.Views.{timing_of};
@@ -69,7 +68,6 @@ impl<Q: ReadyQueue> BareBoard<Q> {
     // duties. Every list of calls keeps the promises.
     pub fn load<G: Gauge>(self, plan: &ClosedPlan<G>, number: u8) -> RunningBoard<Q>
         ensures start { board_of result.state ≡ loaded (list_of plan.now number) }
-        ensures in_step { InStep (Q.held result.queue) (board_of result.state) }
         ensures unknown { (f : Fault) → load_fault number plan.now.header.boards ≡ Err f → list_of plan.now number ≡ [] }
         ensures promises { (calls : List Call) → Promises (list_of plan.now number) (run_of (board_of result.state) calls) }
     {

@@ -2,7 +2,6 @@
 ghost use Rattle.std.specs.Prelude.{◌≡◌, ◌≤◌, true, length, take, MatchResult, OnOk};
 ghost use Rattle.duty.specs.Heads.{head};
 ghost use Rattle.gauge.specs.Shortage.{RefusedListsLeaveAJobShort};
-ghost use Rattle.model.specs.Queues.{InStep};
 ghost use Rattle.model.specs.Steps.{run as run_of};
 ghost use Rattle.board_state.specs.BoardOf.{board_of};
 ghost use Rattle.board.specs.Loads.{list_of, load_fault};
@@ -24,7 +23,7 @@ const MOST: usize = Header::MOST_DUTIES as usize;
 impl<Q: ReadyQueue> RunningBoard<Q> {
     // Makes the calls in their order, and writes each answer beside its call.
     fn play(&mut self, events: &mut [Event])
-        ensures { InStep (Q.held self.old.queue) (board_of self.old.state) → events.new ≡ run_of (board_of self.old.state) (calls events.old) }
+        ensures { events.new ≡ run_of (board_of self.old.state) (calls events.old) }
     {
         for event in events {
             event.answer = self.call(event.call);
