@@ -5,4 +5,4 @@ use Rattle.board_state.specs.declared.states.State.{State}
 use Rattle.board_state.specs.Views.{seen}
 
 abbrev pub board_of : State → Board
-board_of s = record { clock = s.clock; places = map seen (take s.count s.places) }
+board_of s = record { clock = s.clock.ticks; places = map seen (take s.count s.places) }

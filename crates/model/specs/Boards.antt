@@ -1,8 +1,7 @@
 -- The running board: a clock, and for each place its duty, its last accepted arrival and its job, if one waits.
-use Rattle.std.specs.Prelude.{ℕ, List, map, Some, None, Option}
+use Rattle.std.specs.Prelude.{ℕ, List, map, count_by, Some, None, Option, is_some}
 use Rattle.std.specs.Option.{option_map}
 use Rattle.duty.specs.declared.timings.Timing.{Timing}
-use Rattle.duty.specs.Sums.{total}
 use Rattle.model.specs.declared.jobs.Job.{Job}
 
 pub record Place : Type 0 where
@@ -30,11 +29,6 @@ due job = option_map (λ (j : Job). j.deadline) job
 abbrev pub dues : List Place → List (Option ℕ)
 dues xs = map (λ (x : Place). due x.job) xs
 
--- 1 for a job that waits
-abbrev pub one_if_waiting : Option Job → ℕ
-one_if_waiting None = 0
-one_if_waiting (Some j) = 1
-
 -- how many jobs wait
 abbrev pub jobs : List Place → ℕ
-jobs xs = total (λ (x : Place). one_if_waiting x.job) xs
+jobs xs = count_by (λ (x : Place). is_some x.job) xs

@@ -7,9 +7,9 @@ ghost use Rattle.board_state.specs.BoardOf.{board_of};
 ghost use Rattle.board_state.specs.Views.{idle_place, timing_of};
 
 use super::State;
+use crate::clocks::Clock;
 use crate::places::Place;
 use duty::Duty;
-use model::Job;
 use queue::PLACES;
 
 // A place at which nothing has arrived.
@@ -19,7 +19,7 @@ pub(super) fn idle_place(duty: Duty) -> Place
     Place {
         duty,
         last: None,
-        job: Job::Idle,
+        job: None,
     }
 }
 
@@ -40,7 +40,7 @@ fn start(duties: &[Duty]) -> State
     let mut places = [idle_place(Duty::SHORTEST); PLACES];
     fill(&mut places, duties);
     State {
-        clock: 0,
+        clock: Clock { ticks: 0 },
         count: duties.len(),
         places,
     }

@@ -21,5 +21,5 @@ returns c =
     let same : get_or s.places c.args.p d ≡ get_or xs c.args.p d = sym (get_or-take s.count s.places c.args.p d (omega arith)) in
     record {
       place = ap (λ (x : Place). Some (seen x)) same ∙ seen_at xs c.args.p d h;
-      arrived = ap (past s.clock) same ∙ each_at (past s.clock) xs c.args.p d h s.arrived;
+      arrived = ap (past s.clock.ticks) same ∙ each_at (past s.clock.ticks) xs c.args.p d h s.arrived;
     }

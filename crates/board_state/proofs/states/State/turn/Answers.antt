@@ -13,9 +13,9 @@ pub invariant_of-self : goal.invariant_of-self
 invariant_of-self c =
     let s = c.args.self.now in
     let y = c.turned-next.result in
-    let fresh = stays_past s.clock c.args.call c.args.place.now y c.turned-next.ensures c.requires in
-    let arrived = ap (each (past s.clock)) (take_set_in s.count s.places c.args.p y) ∙ each_set (past s.clock) (take s.count s.places) c.args.p y fresh s.arrived in
-    record { wide = length-set s.places c.args.p y ∙ s.wide; few = s.few; limit = s.limit; arrived = arrived }
+    let fresh = stays_past s.clock.ticks c.args.call c.args.place.now y c.turned-next.ensures c.requires in
+    let arrived = ap (each (past s.clock.ticks)) (take_set_in s.count s.places c.args.p y) ∙ each_set (past s.clock.ticks) (take s.count s.places) c.args.p y fresh s.arrived in
+    record { wide = length-set s.places c.args.p y ∙ s.wide; few = s.few; arrived = arrived }
 
 pub returns-then-p-lt-PLACES : goal.returns-then-p-lt-PLACES
 returns-then-p-lt-PLACES c =
