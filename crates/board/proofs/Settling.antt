@@ -40,7 +40,7 @@ arrive_keeps b p = go (slice_get b.places p)
 pub finish_keeps : (b : Board) (p : ℕ) → KeepsStep b p (step b (finish p))
 finish_keeps b p = go (slice_get b.places p)
   where
-    at : (x : Place) (job : Option Job) → KeepsStep b p (finishing_job b p x j)
+    at : (x : Place) (job : Option Job) → KeepsStep b p (finishing_job b p x job)
     at x None = λ h i. i
     at x (Some j) = λ h i. replaced b p (after b.clock (finish p) x) b.clock h i
 

@@ -13,4 +13,4 @@ invariant_of-self g c =
     let s = c.args.self.now.state in
     let few : length (take s.count s.places) ≤ width = simp length-take (omega (arith, s.few, s.wide)) in
     let few' : length (map seen (take s.count s.places)) ≤ width = omega (arith, few, length-map (take s.count s.places) seen) in
-    record { in_step = c.clear.ensures ∙ sym (padded_cancelled s.clock (board_of s).places few') ∙ ap (λ (x : Board). padded width (dues x.places)) (sym c.general_cancel-ended.ensures.board) }
+    record { in_step = c.clear.ensures ∙ sym (padded_cancelled s.clock.ticks (board_of s).places few') ∙ ap (λ (x : Board). padded width (dues x.places)) (sym c.general_cancel-ended.ensures.board) }
