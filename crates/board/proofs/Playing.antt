@@ -1,5 +1,5 @@
 -- One call more of a run, its answer written beside it.
-use Rattle.std.proofs.Common.{◌≡◌, ℕ, ◌+◌, ◌<◌, ◌≤◌, ◌&&◌, leb, List, [], ◌∷◌, ◌++◌, length, get_or, take, drop, set, IfOk, Ok, Err, Option, Result, sym, refl, ap, ◌∙◌, ap₂, subst₂, append_assoc, append-nil, arith, drop-set-lt, MatchResult}
+use Rattle.std.proofs.Common.{◌≡◌, ℕ, ◌+◌, ◌<◌, ◌≤◌, ◌&&◌, leb, List, [], ◌∷◌, ◌++◌, length, get_or, take, drop, set, IfOk, Ok, Err, Option, Result, sym, refl, ap, ◌∙◌, ap₂, subst₂, append_assoc, append-nil, arith, drop-set-lt}
 use Rattle.std.proofs.lemmas.List.{take_all, take_more_set, at_drop_more, at_drop_all}
 use Rattle.std.proofs.lemmas.Bool.{and_parts, leb-true}
 use Rattle.fault.specs.declared.Fault.{Fault}
@@ -11,7 +11,7 @@ use Rattle.model.specs.declared.calls.Event.{Event}
 use Rattle.model.specs.Boards.{Board}
 use Rattle.model.specs.Steps.{step, run}
 use Rattle.board.specs.Loads.{load_fault}
-use Rattle.board.specs.Runs.{calls, Run, NotRun}
+use Rattle.board.specs.Runs.{calls, Run, NotRun, Ran}
 
 module _ (b : Board) (events : List Event) (i : ℕ) (whole : List Event) (so_far : take i events ++ run b (calls (drop i events)) ≡ whole) where
   pub played_more : (b' : Board) (d : Event) (a : Answer) → i < length events → a ≡ (step b (get_or events i d).call).answer → b' ≡ (step b (get_or events i d).call).board → take (i + 1) (set events i (record { call = (get_or events i d).call; answer = a })) ++ run b' (calls (drop (i + 1) (set events i (record { call = (get_or events i d).call; answer = a })))) ≡ whole
@@ -33,7 +33,7 @@ module _ (b : Board) (events : List Event) (i : ℕ) (whole : List Event) (so_fa
       sym (take_all i events h) ∙ sym (append-nil (take i events)) ∙ ap (λ (l : List Event). take i events ++ l) (sym end) ∙ so_far
 
 -- what came of a run, by other names for the same list and queues
-pub same_run : {Q : Type 0} (held : Q → List (Option ℕ)) (ds ds' : List Timing) (before after : List Event) (given given' queue queue' : Q) (r : Result (Unit {0}) Fault) → ds ≡ ds' → given ≡ given' → queue ≡ queue' → MatchResult r (λ _. Run held ds before after queue) (λ _. NotRun given before after queue) → MatchResult r (λ _. Run held ds' before after queue') (λ _. NotRun given' before after queue')
+pub same_run : {Q : Type 0} (held : Q → List (Option ℕ)) (ds ds' : List Timing) (before after : List Event) (given given' queue queue' : Q) (r : Result (Unit {0}) Fault) → ds ≡ ds' → given ≡ given' → queue ≡ queue' → Ran held ds before after given queue r → Ran held ds' before after given' queue' r
 same_run held ds ds' before after given given' queue queue' (Ok u) e f g h =
     subst₂ (λ l q. Run held l before after q) e g h
 same_run held ds ds' before after given given' queue queue' (Err x) e f g h =

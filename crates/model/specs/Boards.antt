@@ -1,5 +1,5 @@
 -- The running board: a clock, and for each place its duty, its last accepted arrival and its job, if one waits.
-use Rattle.std.specs.Prelude.{ℕ, List, map, count_by, Some, None, Option, is_some}
+use Rattle.std.specs.Prelude.{ℕ, List, map, count_by, None, Option, is_some}
 use Rattle.std.specs.Option.{option_map}
 use Rattle.duty.specs.declared.timings.Timing.{Timing}
 use Rattle.model.specs.declared.jobs.Job.{Job}

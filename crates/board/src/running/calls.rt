@@ -74,11 +74,14 @@ impl<Q: ReadyQueue> RunningBoard<Q> {
         ensures { Called call self.old result self.new }
     {
         match call {
-            Call::Arrive(place) => self
-                .arrive(place)
-                .map_or_else(Answer::Refused, |(deadline, units)| Answer::Granted { deadline, units }),
+            Call::Arrive(place) => self.arrive(place).map_or_else(
+                Answer::Refused,
+                |(deadline, units)| Answer::Granted { deadline, units },
+            ),
             Call::Tick => self.tick().map_or_else(Answer::Refused, Answer::Ran),
-            Call::Finish(place) => self.finish(place).map_or_else(Answer::Refused, Answer::Finished),
+            Call::Finish(place) => self
+                .finish(place)
+                .map_or_else(Answer::Refused, Answer::Finished),
             Call::GeneralCancel => Answer::Cancelled(self.general_cancel()),
         }
     }
@@ -87,10 +90,7 @@ impl<Q: ReadyQueue> RunningBoard<Q> {
     pub fn unload(self) -> BareBoard<Q>
         ensures { Q.held result.queue ≡ all_empty }
     {
-        let RunningBoard {
-            state: _,
-            mut queue,
-        } = self;
+        let mut queue = self.queue;
         queue.clear();
         BareBoard { queue }
     }

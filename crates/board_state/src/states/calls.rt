@@ -62,7 +62,7 @@ impl State {
         ensures answer { Cancelled result ≡ (step (board_of self.old) GeneralCancel).answer }
         ensures board { board_of self.new ≡ (step (board_of self.old) GeneralCancel).board }
     {
-        let ended = count_jobs(&self.places[0..self.count]);
+        let ended = count_jobs(&self.places[..self.count]);
         let clock = self.clock;
         cancel_all(&mut self.places, clock);
         ended

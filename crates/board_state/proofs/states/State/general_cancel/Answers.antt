@@ -1,4 +1,4 @@
-use Rattle.std.proofs.Common.{◌≡◌, ℕ, ◌+◌, ◌-◌, cond, count_by, is_some, List, map, length, take, sym, ap, ◌∙◌, arith}
+use Rattle.std.proofs.Common.{◌≡◌, ℕ, ◌+◌, cond, is_some, List, map, length, take, sym, ap, ◌∙◌}
 use lib.ListN.{length-map}
 use Rattle.std.proofs.lemmas.List.{take-map}
 use Rattle.std.proofs.lemmas.List.Folds.{fold-map}
@@ -30,8 +30,7 @@ returns c =
     let s = c.args.self.now in
     let ys = c.cancel_all.new.places in
     let e = first_turned (after s.clock.ticks GeneralCancel) s.count s.places ys c.cancel_all.ensures in
-    let z : s.count - 0 ≡ s.count = omega arith in
     record {
-      answer = ap Cancelled (c.count_jobs-ended.ensures ∙ ap (λ (n : ℕ). count_by (λ (x : Place). is_some x.job) (take n s.places)) z ∙ sym (fold-map (λ (n : ℕ) (x : Seen). n + cond (is_some x.job) 1 0) seen 0 (take s.count s.places)));
+      answer = ap Cancelled (c.count_jobs-ended.ensures ∙ sym (fold-map (λ (n : ℕ) (x : Seen). n + cond (is_some x.job) 1 0) seen 0 (take s.count s.places)));
       board = ap (λ (l : List Seen). record { clock = s.clock.ticks; places = l }) e;
     }
