@@ -56,10 +56,6 @@ tick_keeps b p =
     go None n = λ h i. ap (λ (l : List (Option ℕ)). set l p (due_at (slice_get b.places p))) i ∙ padded_same width b.places p
     go (Some x) n = λ h i. replaced b p (after b.clock tick x) (b.clock + 1) h i
 
-idle_keeps : (b : Board) (h : List (Option ℕ)) → InStep h b → InStep h (ticked b None).board
-idle_keeps b h i =
-    cond_both (ltb b.clock clock_limit) (ticking b None) (refusing b ClockFull) (λ (o : Outcome). InStep h o.board) (λ t. i) (λ t. i)
-
 -- an accepted tick went to the place that was told
 ran_is : (b : Board) (first place : Option ℕ) → ran place ≡ (ticked b first).answer → place ≡ first
 ran_is b first place e =
@@ -82,11 +78,6 @@ module _ (b : Board) (h : List (Option ℕ)) (in_step : InStep h b) where
   pub settled_tick : (first : Option ℕ) (p : ℕ) → first ≡ Some p → (answer : Answer) → answer ≡ (ticked b first).answer → accepted answer ≡ true → (later : Board) → later ≡ (ticked b first).board → (h' : List (Option ℕ)) → h' ≡ set h p (due_at (slice_get later.places p)) → InStep h' later
   settled_tick first p f answer a ok later same h' told =
       settled (ticked b (Some p)) p (tick_keeps b p) answer (a ∙ ap (λ (o : Option ℕ). (ticked b o).answer) f) ok later (same ∙ ap (λ (o : Option ℕ). (ticked b o).board) f) h' told
-
-  -- a tick went to none
-  pub settled_idle : (first : Option ℕ) → first ≡ None → (later : Board) → later ≡ (ticked b first).board → InStep h later
-  settled_idle first f later same =
-      idle_keeps b h in_step ∙ ap (λ (x : Board). padded width (dues x.places)) (sym (same ∙ ap (λ (o : Option ℕ). (ticked b o).board) f))
 
   module _ (first : Option ℕ) (told : first ≡ earliest h) where
     -- what is first in the queue is first on the board

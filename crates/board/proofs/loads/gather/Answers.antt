@@ -1,9 +1,5 @@
-use Rattle.std.proofs.Common.{ap, ◌∙◌, take, get_or, List}
-use Rattle.std.proofs.lemmas.List.{take_all}
-use Rattle.duty.specs.declared.records.Record.{Record}
-use Rattle.boards.specs.Lists.{on_board, no_record}
-use Rattle.queue.specs.Places.{places as width}
-use Rattle.model.specs.Boards.{loaded}
+use Rattle.std.proofs.Common.{ap, ◌∙◌, get_or}
+use Rattle.boards.specs.Lists.{no_record}
 use Rattle.board_state.specs.BoardOf.{board_of}
 use Rattle.board.proofs.Gathering.{some_duty, gathers, passes}
 use Rattle.board.proofs.loads.gather.Goals as goal
@@ -21,8 +17,3 @@ loop-record-preserved c =
       | then-record-board+in_default w ↦ absurd (some_duty (get_or rs i no_record) (c.requires i more) w.in_default.ensures)
       | else-record-board w ↦ ap board_of w.state-is ∙ passes rs b i more (board_of l.state) l.invariant w.if-record-board.false
     ]
-
-pub returns : goal.returns
-returns c =
-    let l = c.loop-record in
-    l.invariant ∙ ap (λ (rs : List Record). loaded (take width (on_board c.args.board rs))) (take_all l.record-index c.args.records.now c.loop-record-test.false)

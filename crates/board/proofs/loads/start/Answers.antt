@@ -1,22 +1,13 @@
-use Rattle.std.proofs.Common.{◌≡◌, ℕ, ◌<◌, true, List, length, get_or, take, sym, ap, ◌∙◌, subst, ap₂}
+use Rattle.std.proofs.Common.{ℕ, List, take, ap, ◌∙◌, ap₂}
 use Rattle.std.proofs.lemmas.List.{take_all}
 use Rattle.duty.specs.declared.records.Record.{Record}
 use Rattle.duty.specs.Heads.{Head}
-use Rattle.duty.specs.Records.{duty_record}
-use Rattle.boards.specs.Lists.{on_board, no_record}
+use Rattle.boards.specs.Lists.{on_board}
 use Rattle.queue.specs.Places.{places as width}
 use Rattle.model.specs.Boards.{loaded}
 use Rattle.board.specs.Loads.{list_of}
-use Rattle.board.proofs.Gathering.{first_records, few_on}
+use Rattle.board.proofs.Gathering.{few_on}
 use Rattle.board.proofs.loads.start.Goals as goal
-
-pub gather-requires : goal.gather-requires
-gather-requires g c =
-    let p = c.args.plan.now in
-    let n = c.duties.ensures ∙ ap (λ (h : Head). h.duties) c.header.ensures in
-    let rows = ap₂ (λ (m : ℕ) (rs : List Record). take m rs) n c.records.ensures.answer in
-    let good = first_records p.header.cycle p.header.duties p.records.now p.duties in
-    subst (λ (rs : List Record). (k : ℕ) → k < length rs → duty_record (get_or rs k no_record) ≡ true) (sym rows) good
 
 pub returns : goal.returns
 returns g c =

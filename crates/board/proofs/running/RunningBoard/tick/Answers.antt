@@ -1,7 +1,7 @@
 use Rattle.std.proofs.Common.{refl, ap, ◌∙◌}
 use Rattle.model.specs.Steps.{Outcome}
 use Rattle.board_state.specs.BoardOf.{board_of}
-use Rattle.board.proofs.Settling.{settled_tick, settled_idle, ticks, foremost_ran}
+use Rattle.board.proofs.Settling.{settled_tick, ticks, foremost_ran}
 use Rattle.board.proofs.running.RunningBoard.tick.Goals as goal
 
 pub invariant_of-self-in-Some : goal.invariant_of-self-in-Some
@@ -20,11 +20,6 @@ returns-in-Some g c =
       called = record { answer_is = done.answer ∙ ap (λ (o : Outcome). o.answer) step; board_is = done.board ∙ ap (λ (o : Outcome). o.board) step };
       relation = foremost_ran (board_of before.state) _ before.in_step _ told _ done.answer;
     }
-
-pub invariant_of-self-in_default : goal.invariant_of-self-in_default
-invariant_of-self-in_default g c =
-    let before = c.args.self.now in
-    record { in_step = settled_idle (board_of before.state) _ before.in_step _ c.in_default.is _ c.in_ok-ran.ensures.board }
 
 pub returns-in_default : goal.returns-in_default
 returns-in_default g c =

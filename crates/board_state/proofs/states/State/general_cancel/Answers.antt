@@ -1,8 +1,6 @@
-use Rattle.std.proofs.Common.{◌≡◌, ℕ, ◌+◌, cond, is_some, List, map, length, take, sym, ap, ◌∙◌}
+use Rattle.std.proofs.Common.{◌≡◌, ℕ, List, map, length, take, sym, ap, ◌∙◌}
 use lib.ListN.{length-map}
 use Rattle.std.proofs.lemmas.List.{take-map}
-use Rattle.std.proofs.lemmas.List.Folds.{fold-map}
-use Rattle.model.specs.declared.calls.Answer.TheVariants.{Cancelled}
 use Rattle.model.specs.declared.calls.Call.TheVariants.{GeneralCancel}
 use Rattle.model.specs.Boards.{Place as Seen}
 use Rattle.model.specs.Steps.{after}
@@ -25,12 +23,7 @@ invariant_of-self c =
     let wide : length ys ≡ length s.places = sym (length-map ys seen) ∙ long ∙ length-map (map seen s.places) (after s.clock.ticks GeneralCancel) ∙ length-map s.places seen in
     record { wide = wide ∙ s.wide; few = s.few; arrived = none_past s.clock.ticks (take s.count s.places) (take s.count ys) e }
 
-pub returns : goal.returns
-returns c =
+pub returns-clause-board : goal.returns-clause-board
+returns-clause-board c =
     let s = c.args.self.now in
-    let ys = c.cancel_all.new.places in
-    let e = first_turned (after s.clock.ticks GeneralCancel) s.count s.places ys c.cancel_all.ensures in
-    record {
-      answer = ap Cancelled (c.count_jobs-ended.ensures ∙ sym (fold-map (λ (n : ℕ) (x : Seen). n + cond (is_some x.job) 1 0) seen 0 (take s.count s.places)));
-      board = ap (λ (l : List Seen). record { clock = s.clock.ticks; places = l }) e;
-    }
+    ap (λ (l : List Seen). record { clock = s.clock.ticks; places = l }) (first_turned (after s.clock.ticks GeneralCancel) s.count s.places c.cancel_all.new.places c.cancel_all.ensures)
