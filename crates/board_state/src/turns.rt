@@ -14,10 +14,7 @@ pub(crate) fn is_too_soon(place: &Place, clock: Clock) -> bool
     requires { past clock.ticks place.now ≡ true }
     ensures { result ≡ too_soon clock.ticks place.now.duty.timing.spacing place.now.last }
 {
-    match place.last {
-        None => false,
-        Some(last) => clock.ticks < last + place.duty.timing().spacing as u64,
-    }
+    place.last.is_some_and(|last| clock.ticks < last + place.duty.timing().spacing as u64)
 }
 
 // The job of a place after an accepted call that concerns it.
