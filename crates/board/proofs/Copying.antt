@@ -1,6 +1,6 @@
 -- A plan and the copy of its first 64 records are closed and run alike.
-use Rattle.std.proofs.Common.{◌≡◌, ℕ, ◌<◌, ◌≤◌, min, Bool, cond, ltb, List, length, take, Err, sym, ap, ◌∙◌, ap₂, ⊎_elim, arith, length-take}
-use Rattle.std.proofs.lemmas.List.{take_all, take-take}
+use Rattle.std.proofs.Common.{◌≡◌, ℕ, ◌<◌, ◌≤◌, Bool, cond, ltb, List, length, take, Err, sym, ap, ◌∙◌, ap₂, ⊎_elim, arith, length-take}
+use Rattle.std.proofs.lemmas.List.{take-take}
 use Rattle.std.proofs.lemmas.Bool.{cases_lt, lt-ltb, le-ltb}
 use Rattle.fault.specs.declared.Cause.TheVariants.{RecordsShort}
 use Rattle.fault.specs.declared.Layer.TheVariants.{Call}
@@ -15,14 +15,6 @@ use Rattle.boards.specs.Lists.{on_board}
 use Rattle.plans.specs.Closing.{first_homeless, homeless_fault, overfull_fault}
 use Rattle.board.specs.Loads.{load_fault}
 use Rattle.board.specs.Runs.{listed, run_fault}
-
--- the first elements, where there are fewer than were asked for
-pub take_least : {A : Type 0} (xs : List A) (n m : ℕ) → n ≡ min (length xs) m → take n xs ≡ take m xs
-take_least {A} xs n m e =
-    ⊎_elim
-    (λ (low : length xs < m). take_all n xs (omega (arith, e)) ∙ sym (take_all m xs (omega arith)))
-    (λ (high : m ≤ length xs). ap (λ (k : ℕ). take k xs) (omega (arith, e)))
-    (cases_lt (length xs) m)
 
 module _ (h : Head) (rs : List Record) (most : ℕ) (few : h.duties ≤ most) where
   same_rows : take h.duties (take most rs) ≡ take h.duties rs

@@ -1,10 +1,9 @@
 -- A board's duties, gathered from the records of a plan.
-use Rattle.std.proofs.Common.{◌≡◌, ℕ, suc, ◌+◌, ◌<◌, ◌≤◌, true, eqb, leb, List, [], ◌∷◌, ◌++◌, map, length, get_or, take, drop, set, Some, None, Err, Option, sym, refl, ap, ◌∙◌, subst, ⊎_elim, append-nil, arith, length-take}
-use lib.ListN.{length-map}
+use Rattle.std.proofs.Common.{◌≡◌, ℕ, suc, ◌+◌, ◌<◌, ◌≤◌, true, eqb, leb, List, [], ◌∷◌, ◌++◌, length, get_or, take, Some, None, Err, Option, sym, refl, ap, ◌∙◌, subst, ⊎_elim, append-nil, arith, length-take}
 use Rattle.std.specs.List.{AllByRecursion}
 use Rattle.std.proofs.ByRecursion.{All-from_get_or}
-use Rattle.std.proofs.lemmas.List.{at_drop_all, map-set, get_or-take}
-use Rattle.std.proofs.lemmas.Bool.{cond-true, cond-false, cond_both, cases_lt, and_parts, and_from, ne_eqb, le-leb}
+use Rattle.std.proofs.lemmas.List.{take_more, get_or-take}
+use Rattle.std.proofs.lemmas.Bool.{cond-true, cond-false, cond_both, cases_lt, and_parts, and_from, eq-eqb, ne_eqb, le-leb}
 use Rattle.fault.specs.declared.Fault.{Fault}
 use Rattle.fault.proofs.Steps.{never}
 use Rattle.duty.specs.declared.duties.Duty.{Duty}
@@ -17,8 +16,12 @@ use Rattle.duty.specs.Records.{duty_record, in_cycle, duty_of}
 use Rattle.duty.specs.Timely.{timely}
 use Rattle.gauge.specs.Fairness.{Timed, timed}
 use Rattle.boards.specs.Lists.{on_board, no_record}
-use Rattle.boards.proofs.Collecting.{collects}
-use Rattle.board_state.specs.Views.{timing_of}
+use Rattle.boards.proofs.Collecting.{on_board_append}
+use Rattle.boards.proofs.Few.{on_board_few}
+use Rattle.queue.specs.Places.{places as width}
+use Rattle.model.specs.Boards.{Board, loaded}
+use Rattle.board_state.specs.BoardOf.{seating}
+use Rattle.board_state.proofs.Seating.{seated}
 use Rattle.board.specs.Loads.{load_fault}
 
 -- the duty of a duty record has its timing
@@ -32,18 +35,25 @@ some_duty r ok e =
     let z : ◌≡◌ {A = ℕ} 0 1 = cc in
     omega arith
 
--- one duty more
-pub gathers : (rs : List Record) (b i : ℕ) → i < length rs → (list : List Duty) (n : ℕ) → n < length list → (d : Duty) → (get_or rs i no_record).board ≡ b → duty_record (get_or rs i no_record) ≡ true → Some d.timing ≡ duty_of (get_or rs i no_record) → take n (map timing_of list) ++ on_board b (drop i rs) ≡ on_board b rs → take (n + 1) (map timing_of (set list n d)) ++ on_board b (drop (i + 1) rs) ≡ on_board b rs
-gathers rs b i within list n room d here ok e inv =
-    let rest = on_board b (drop (i + 1) rs) in
-    let room' : n < length (map timing_of list) = omega (arith, length-map list timing_of) in
-    ap (λ (l : List Timing). take (n + 1) l ++ rest) (map-set timing_of list n d ∙ ap (λ (x : Timing). set (map timing_of list) n x) (same_timing d (get_or rs i no_record) ok e))
-    ∙ collects rs b i no_record within (map timing_of list) (on_board b rs) n room' here inv
+-- a loop that gives a place to each duty of the board
+module _ (rs : List Record) (b i : ℕ) (within : i < length rs) (state : Board) (so_far : state ≡ loaded (take width (on_board b (take i rs)))) where
+  front : on_board b (take (i + 1) rs) ≡ on_board b (take i rs) ++ on_board b (get_or rs i no_record ∷ [])
+  front = ap (on_board b) (take_more rs i no_record within) ∙ on_board_append b (take i rs) (get_or rs i no_record ∷ [])
 
--- all of them
-pub gathered : (rs : List Record) (b i : ℕ) → length rs ≤ i → (front : List Timing) → front ++ on_board b (drop i rs) ≡ on_board b rs → front ≡ on_board b rs
-gathered rs b i end front inv =
-    sym (append-nil front) ∙ ap (λ (r : List Timing). front ++ r) (sym (at_drop_all (on_board b) rs i end)) ∙ inv
+  pub gathers : (d : Duty) → (get_or rs i no_record).board ≡ b → duty_record (get_or rs i no_record) ≡ true → Some d.timing ≡ duty_of (get_or rs i no_record) → seating state d.timing ≡ loaded (take width (on_board b (take (i + 1) rs)))
+  gathers d here ok e =
+      let r = get_or rs i no_record in
+      let one : on_board b (r ∷ []) ≡ d.timing ∷ [] = cond-true _ _ _ (eq-eqb _ _ here) ∙ ap (λ (t : Timing). t ∷ []) (sym (same_timing d r ok e)) in
+      ap (λ (x : Board). seating x d.timing) so_far
+      ∙ seated (on_board b (take i rs)) d.timing
+      ∙ ap (λ (l : List Timing). loaded (take width l)) (sym (front ∙ ap (λ (l : List Timing). on_board b (take i rs) ++ l) one))
+
+  pub passes : ((get_or rs i no_record).board ≡ b → ⊥) → state ≡ loaded (take width (on_board b (take (i + 1) rs)))
+  passes other =
+      let r = get_or rs i no_record in
+      let none : on_board b (r ∷ []) ≡ [] = cond-false _ _ _ (ne_eqb _ _ other) in
+      so_far
+      ∙ ap (λ (l : List Timing). loaded (take width l)) (sym (front ∙ ap (λ (l : List Timing). on_board b (take i rs) ++ l) none ∙ append-nil (on_board b (take i rs))))
 
 -- what holds of the timing of each record holds of each duty of a board
 all_on_board : (P : Timing → Type 0) (b : ℕ) (rs : List Record) → AllByRecursion (λ r. P r.timing) rs → AllByRecursion P (on_board b rs)
@@ -65,14 +75,8 @@ first_records cycle n rs h k l =
     let low : k < n = omega (arith, length-take n rs) in
     ap duty_record (get_or-take n rs k no_record low) ∙ (and_parts (duty_record (get_or rs k no_record)) _ (h k low)).0
 
--- a board has at most as many duties as there are records
-length_on_board : (b : ℕ) (rs : List Record) → length (on_board b rs) ≤ length rs
-length_on_board b [] = omega arith
-length_on_board b (r ∷ rs) =
-    cond_both (eqb r.board b) (r.timing ∷ on_board b rs) (on_board b rs) (λ l. length l ≤ length (r ∷ rs)) (λ t. omega (arith, length_on_board b rs)) (λ t. omega (arith, length_on_board b rs))
-
 pub few_on : (b n : ℕ) (rs : List Record) → n ≤ most_duties → length (on_board b (take n rs)) ≤ most_duties
-few_on b n rs h = omega (arith, length_on_board b (take n rs), length-take n rs)
+few_on b n rs h = omega (arith, on_board_few b (take n rs), length-take n rs)
 
 -- no record has this board
 none_on : (b : ℕ) (rs : List Record) → ((k : ℕ) → k < length rs → (get_or rs k no_record).board ≡ b → ⊥) → on_board b rs ≡ []

@@ -1,5 +1,5 @@
 -- What a whole run does.
-use Rattle.std.specs.Prelude.{◌≡◌, ℕ, Bool, List, map, take, Option, Result}
+use Rattle.std.specs.Prelude.{◌≡◌, ℕ, Bool, List, map, take, Option, Result, MatchResult}
 use Rattle.fault.specs.declared.Fault.{Fault}
 use Rattle.fault.specs.Faults.{then}
 use Rattle.duty.specs.declared.records.Record.{Record}
@@ -40,3 +40,8 @@ pub record Run {Q : Type 0} (held : Q → List (Option ℕ)) (duties : List Timi
 pub record NotRun {Q : Type 0} (given : Q) (before after : List Event) (queue : Q) : Type 0 where
   pub events : after ≡ before
   pub same_queue : queue ≡ given
+
+-- what came of running the calls `before` on a board with the duties and the queue `given`: a run, or a refusal
+abbrev pub Ran : {Q : Type 0} → (Q → List (Option ℕ)) → List Timing → List Event → List Event → Q → Q → Result (Unit {0}) Fault → Type 0
+Ran held duties before after given queue answer =
+    MatchResult answer (λ _. Run held duties before after queue) (λ _. NotRun given before after queue)

@@ -20,7 +20,6 @@ impl<Q: ReadyQueue> BareBoard<Q> {
     pub fn into_queue(self) -> Q
         ensures { result ≡ self.queue }
     {
-        let BareBoard { queue } = self;
-        queue
+        self.queue
     }
 }

@@ -1,3 +1,4 @@
+// Boards that run: loaded from a closed plan, called one call at a time or for a whole list of calls, and bare again.
 #![tactic(auto)]
 
 mod bare;

@@ -1,12 +1,11 @@
 // Whole runs: a board is loaded, makes a list of calls, and is bare again.
-ghost use Rattle.std.specs.Prelude.{◌≡◌, ◌≤◌, true, length, take, MatchResult, OnOk};
+ghost use Rattle.std.specs.Prelude.{◌≡◌, ◌≤◌, true, length, take, OnOk};
 ghost use Rattle.duty.specs.Heads.{head};
 ghost use Rattle.gauge.specs.Shortage.{RefusedListsLeaveAJobShort};
-ghost use Rattle.model.specs.Queues.{InStep};
 ghost use Rattle.model.specs.Steps.{run as run_of};
 ghost use Rattle.board_state.specs.BoardOf.{board_of};
 ghost use Rattle.board.specs.Loads.{list_of, load_fault};
-ghost use Rattle.board.specs.Runs.{calls, listed, run_fault, Run, NotRun};
+ghost use Rattle.board.specs.Runs.{calls, listed, run_fault, Ran};
 
 use crate::bare::BareBoard;
 use crate::loads::check_load;
@@ -24,7 +23,7 @@ const MOST: usize = Header::MOST_DUTIES as usize;
 impl<Q: ReadyQueue> RunningBoard<Q> {
     // Makes the calls in their order, and writes each answer beside its call.
     fn play(&mut self, events: &mut [Event])
-        ensures { InStep (Q.held self.old.queue) (board_of self.old.state) → events.new ≡ run_of (board_of self.old.state) (calls events.old) }
+        ensures { events.new ≡ run_of (board_of self.old.state) (calls events.old) }
     {
         for event in events {
             event.answer = self.call(event.call);
@@ -41,7 +40,7 @@ pub fn run<G: Gauge, Q: ReadyQueue>(
     events: &mut [Event],
 ) -> (BareBoard<Q>, Result<(), Fault>)
     ensures answer { result.1 ≡ load_fault number plan.now.header.boards }
-    ensures ran { MatchResult result.1 (λ _. Run Q.held (list_of plan.now number) events.old events.new result.0.queue) (λ _. NotRun board.queue events.old events.new result.0.queue) }
+    ensures ran { Ran Q.held (list_of plan.now number) events.old events.new board.queue result.0.queue result.1 }
     ensures refused_lists { RefusedListsLeaveAJobShort }
 {
     if let Err(fault) = check_load(plan, number) {
@@ -62,7 +61,7 @@ fn run_rows<G: Gauge + Drop, Q: ReadyQueue>(
     events: &mut [Event],
 ) -> (Q, Result<(), Fault>)
     ensures answer { result.1 ≡ run_fault (G.passed gauge) (head header) rows.old number }
-    ensures ran { MatchResult result.1 (λ _. Run Q.held (listed (head header) rows.old number) events.old events.new result.0) (λ _. NotRun queue events.old events.new result.0) }
+    ensures ran { Ran Q.held (listed (head header) rows.old number) events.old events.new queue result.0 result.1 }
     ensures passing { OnOk result.1 (G.passed gauge (listed (head header) rows.old number) header.cycle ≡ true) }
 {
     let plan = OpenPlan::new(header, rows);
@@ -80,7 +79,7 @@ fn copy_rows(records: &[Record], rows: &mut [Record]) -> usize
     ensures value { take result rows.new ≡ take (length rows.old) records.now }
 {
     let n = records.len().min(rows.len());
-    rows[0..n].copy_from_slice(&records[0..n]);
+    rows[..n].copy_from_slice(&records[..n]);
     n
 }
 
@@ -95,11 +94,11 @@ pub fn run_plan<G: Gauge + Drop, Q: ReadyQueue>(
     events: &mut [Event],
 ) -> (Q, Result<(), Fault>)
     ensures answer { result.1 ≡ run_fault (G.passed gauge) (head header) records.now number }
-    ensures ran { MatchResult result.1 (λ _. Run Q.held (listed (head header) records.now number) events.old events.new result.0) (λ _. NotRun queue events.old events.new result.0) }
+    ensures ran { Ran Q.held (listed (head header) records.now number) events.old events.new queue result.0 result.1 }
     ensures passing { OnOk result.1 (G.passed gauge (listed (head header) records.now number) header.cycle ≡ true) }
     ensures refused_lists { RefusedListsLeaveAJobShort }
 {
     let mut rows = [Record::BLANK; MOST];
     let n = copy_rows(records, &mut rows);
-    run_rows(header, &mut rows[0..n], gauge, number, queue, events)
+    run_rows(header, &mut rows[..n], gauge, number, queue, events)
 }

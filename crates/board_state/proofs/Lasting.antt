@@ -1,7 +1,6 @@
 -- Last arrivals lie in the past, and stay there.
 use Rattle.std.proofs.Common.{◌≡◌, ℕ, ◌+◌, true, List, [], ◌∷◌, map, Some, None, Option, refl, ap, ◌∙◌, arith}
 use Rattle.std.proofs.lemmas.Bool.{and_from, le-leb, leb-true}
-use Rattle.duty.specs.declared.duties.Duty.{Duty}
 use Rattle.gauge.specs.Each.{each}
 use Rattle.gauge.specs.Eaches.{each_weaker}
 use Rattle.model.specs.declared.calls.Call.{Call}
@@ -10,7 +9,7 @@ use Rattle.model.specs.Boards.{Place as Seen}
 use Rattle.model.specs.Steps.{last_after, after}
 use Rattle.board_state.specs.declared.places.Place.{Place}
 use Rattle.board_state.specs.Past.{last_past, past}
-use Rattle.board_state.specs.Views.{seen, idle_place}
+use Rattle.board_state.specs.Views.{seen}
 
 last_stays_past : (c : ℕ) (last : Option ℕ) (call : Call) → last_past c last ≡ true → last_past c (last_after c last call) ≡ true
 last_stays_past c last (arrive p) h = le-leb c c (omega arith)
@@ -38,8 +37,3 @@ none_past c (x ∷ xs) (y ∷ ys) e =
     let first : seen y ≡ after c cancel (seen x) = cc in
     let rest : map seen ys ≡ map (after c cancel) (map seen xs) = cc in
     and_from (past c y) (each (past c) ys) (ap (λ (z : Seen). last_past c z.last) first) (none_past c xs ys rest)
-
--- nor are there any at the start
-pub idle_past : (c : ℕ) (ds : List Duty) → each (past c) (map idle_place ds) ≡ true
-idle_past c [] = refl
-idle_past c (d ∷ ds) = idle_past c ds

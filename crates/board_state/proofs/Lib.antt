@@ -1,2 +1,3 @@
 pub mod Seeing
 pub mod Lasting
+pub mod Seating

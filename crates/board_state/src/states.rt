@@ -2,9 +2,9 @@
 ghost use Rattle.std.specs.Prelude.{◌≡◌, ◌≤◌, true, length, take};
 ghost use Rattle.gauge.specs.Each.{each};
 ghost use Rattle.queue.specs.Places.{places as width};
-ghost use Rattle.model.specs.Steps.{clock_limit};
 ghost use Rattle.board_state.specs.Past.{past};
 
+use crate::clocks::Clock;
 use crate::places::Place;
 use queue::PLACES;
 
@@ -14,15 +14,14 @@ mod starts;
 #[cfg(test)]
 mod tests;
 
-// The first `count` places are the board's. Always: the clock has not passed its limit, and no last arrival
-// lies ahead of it.
+// The first `count` places are the board's. Always: no last arrival lies ahead of the clock. An array and a count
+// stand where a vector of fixed capacity might, since a state is `Copy` and `ArrayVec` is not.
 #[derive(Clone, Copy)]
 pub struct State {
-    clock: u64,
+    clock: Clock,
     count: usize,
     places: [Place; PLACES],
     ghost wide: { length places ≡ width },
     ghost few: { count ≤ width },
-    ghost limit: { clock ≤ clock_limit },
-    ghost arrived: { each (past clock) (take count places) ≡ true },
+    ghost arrived: { each (past clock.ticks) (take count places) ≡ true },
 }

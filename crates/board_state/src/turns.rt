@@ -1,69 +1,53 @@
 // What a call does to the one place that it concerns.
-ghost use Rattle.std.specs.Prelude.{◌≡◌, ◌≤◌, true, map, length};
-ghost use Rattle.queue.specs.Places.{places as width};
+ghost use Rattle.std.specs.Prelude.{◌≡◌, true, map, count_by, is_some};
 ghost use Rattle.model.specs.declared.calls.Call.TheVariants.{GeneralCancel};
-ghost use Rattle.model.specs.Boards.{one_if_waiting};
-ghost use Rattle.model.specs.Steps.{clock_limit, too_soon, job_after, last_after, after};
-ghost use Rattle.board_state.specs.Views.{seen, jobs_of};
+ghost use Rattle.model.specs.Steps.{too_soon, job_after, last_after, after};
+ghost use Rattle.board_state.specs.Views.{seen};
 ghost use Rattle.board_state.specs.Past.{past};
 
+use crate::clocks::Clock;
 use crate::places::Place;
 use model::{Call, Job};
 
 // Whether an arrival now would come before the spacing has passed.
-pub(crate) fn is_too_soon(place: &Place, clock: u64) -> bool
-    requires low { clock ≤ clock_limit }
-    requires before { past clock place.now ≡ true }
-    ensures { result ≡ too_soon clock place.now.duty.timing.spacing place.now.last }
+pub(crate) fn is_too_soon(place: &Place, clock: Clock) -> bool
+    requires { past clock.ticks place.now ≡ true }
+    ensures { result ≡ too_soon clock.ticks place.now.duty.timing.spacing place.now.last }
 {
-    match place.last {
-        None => false,
-        Some(last) => clock < last + place.duty.timing().spacing as u64,
-    }
+    place.last.is_some_and(|last| clock.ticks < last + place.duty.timing().spacing as u64)
 }
 
 // The job of a place after an accepted call that concerns it.
-fn job_after(place: &Place, call: Call, clock: u64) -> Job
-    requires { clock ≤ clock_limit }
-    ensures { result ≡ job_after clock place.now.duty.timing place.now.job call }
+fn job_after(place: &Place, call: Call, clock: Clock) -> Option<Job>
+    ensures { result ≡ job_after clock.ticks place.now.duty.timing place.now.job call }
 {
     let duty = place.duty.timing();
     match (call, place.job) {
-        (Call::Arrive(_), _) => Job::Waiting {
-            deadline: clock + duty.deadline as u64,
+        (Call::Arrive(_), _) => Some(Job {
+            deadline: clock.after(duty.deadline),
             units: duty.cost,
-        },
-        (Call::Tick, Job::Waiting { deadline, units }) => {
-            if units > 1 {
-                Job::Waiting {
-                    deadline,
-                    units: units - 1,
-                }
-            } else {
-                Job::Idle
-            }
-        }
-        (Call::Tick, Job::Idle) => Job::Idle,
-        (Call::Finish(_), _) => Job::Idle,
-        (Call::GeneralCancel, _) => Job::Idle,
+        }),
+        (Call::Tick, Some(job)) if job.units > 1 => Some(Job {
+            units: job.units - 1,
+            ..job
+        }),
+        (Call::Tick | Call::Finish(_) | Call::GeneralCancel, _) => None,
     }
 }
 
-fn last_after(last: Option<u64>, call: Call, clock: u64) -> Option<u64>
-    ensures { result ≡ last_after clock last call }
+fn last_after(last: Option<u64>, call: Call, clock: Clock) -> Option<u64>
+    ensures { result ≡ last_after clock.ticks last call }
 {
     match call {
-        Call::Arrive(_) => Some(clock),
-        Call::Tick => last,
-        Call::Finish(_) => last,
+        Call::Arrive(_) => Some(clock.ticks),
+        Call::Tick | Call::Finish(_) => last,
         Call::GeneralCancel => None,
     }
 }
 
 // A place after an accepted call that concerns it.
-pub(crate) fn turned(place: &Place, call: Call, clock: u64) -> Place
-    requires { clock ≤ clock_limit }
-    ensures { seen result ≡ after clock call (seen place.now) }
+pub(crate) fn turned(place: &Place, call: Call, clock: Clock) -> Place
+    ensures { seen result ≡ after clock.ticks call (seen place.now) }
 {
     Place {
         duty: place.duty,
@@ -72,34 +56,18 @@ pub(crate) fn turned(place: &Place, call: Call, clock: u64) -> Place
     }
 }
 
-fn one_if_waiting(job: Job) -> usize
-    ensures value { result ≡ one_if_waiting job }
-    ensures small { result ≤ 1 }
-{
-    match job {
-        Job::Idle => 0,
-        Job::Waiting { .. } => 1,
-    }
-}
-
 // How many jobs wait.
 pub(crate) fn count_jobs(places: &[Place]) -> usize
-    requires { length places.now ≤ width }
-    ensures { result ≡ jobs_of places.now }
+    ensures { result ≡ count_by (λ x. is_some x.job) places.now }
 {
-    let mut n = 0;
-    for place in places {
-        n += one_if_waiting(place.job);
-    }
-    n
+    places.iter().filter(|place| place.job.is_some()).count()
 }
 
 // Turns every place as a General Cancel does.
-pub(crate) fn cancel_all(places: &mut [Place], clock: u64)
-    requires { clock ≤ clock_limit }
-    ensures { map seen places.new ≡ map (after clock GeneralCancel) (map seen places.old) }
+pub(crate) fn cancel_all(places: &mut [Place], clock: Clock)
+    ensures { map seen places.new ≡ map (after clock.ticks GeneralCancel) (map seen places.old) }
 {
-    for i in 0..places.len() {
-        places[i] = turned(&places[i], Call::GeneralCancel, clock);
+    for place in places.iter_mut() {
+        *place = turned(place, Call::GeneralCancel, clock);
     }
 }

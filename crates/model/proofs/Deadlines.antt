@@ -6,7 +6,6 @@ use Rattle.duty.specs.declared.timings.Timing.{Timing}
 use Rattle.duty.specs.Demand.{demands}
 use Rattle.gauge.specs.Fairness.{Timed}
 use Rattle.model.specs.declared.jobs.Job.{Job}
-use Rattle.model.specs.declared.jobs.Job.TheVariants.{Idle as idle, Waiting as waiting}
 use Rattle.model.specs.declared.calls.Call.TheVariants.{Arrive as arrive}
 use Rattle.model.specs.declared.calls.Answer.{Answer}
 use Rattle.model.specs.declared.calls.Answer.TheVariants.{Granted as granted}
@@ -22,17 +21,17 @@ use Rattle.model.proofs.Effects.{Effect, begins, stays, works, ends, clears, mov
 use Rattle.model.proofs.Traces.{Answered, reached, answered_left, answered_right, kept_reached, clock_reached, still_loaded}
 
 -- the units left of a job
-abbrev pub left : Job → ℕ
-left idle = 0
-left (waiting deadline units) = units
+abbrev pub left : Option Job → ℕ
+left None = 0
+left (Some j) = j.units
 
-left_spent : (e u : ℕ) → 1 ≤ u → left (spent (waiting e u)) + 1 ≡ u
-left_spent e u some =
-    cond_both (ltb 1 u) (waiting e (u - 1)) idle (λ j. left j + 1 ≡ u) (λ k. omega (arith, ltb-true 1 u k)) (λ k. omega (arith, ltb-false 1 u k))
+left_spent : (j : Job) → 1 ≤ j.units → left (spent (Some j)) + 1 ≡ j.units
+left_spent j some =
+    cond_both (ltb 1 j.units) (Some (record { deadline = j.deadline; units = j.units - 1 })) None (λ o. left o + 1 ≡ j.units) (λ k. omega (arith, ltb-true 1 j.units k)) (λ k. omega (arith, ltb-false 1 j.units k))
 
 -- a job that got a tick has one unit less
-pub left_served : (b : Board) → Kept b → (p : ℕ) (x : Place) (d u : ℕ) → slice_get b.places p ≡ Some x → x.job ≡ waiting d u → left (spent x.job) + 1 ≡ left x.job
-left_served b k p x d u n j = rw j (left_spent d u (pending b.clock x d u (sound_at b k p x n) j).some_left)
+pub left_served : (b : Board) → Kept b → (p : ℕ) (x : Place) (j : Job) → slice_get b.places p ≡ Some x → x.job ≡ Some j → left (spent x.job) + 1 ≡ left x.job
+left_served b k p x j n w = rw w (left_spent j (pending b.clock x j (sound_at b k p x n) w).some_left)
 
 abbrev left_at : Place → ℕ
 left_at x = left x.job
@@ -41,34 +40,34 @@ module _ (b : Board) (k : Kept b) (p : ℕ) (x : Place) (n : slice_get b.places 
   never_more_step : (e : Event) (y : Place) → Effect p b.clock e x y → (es : List Event) → job_got p es ≤ left y.job → job_got p (e ∷ es) ≤ left x.job
   never_more_step e y (begins q s t g soon) es ih = rw s (omega arith)
   never_more_step e y (stays q s g) es ih = rw s (omega (arith, ap left_at q))
-  never_more_step e y (works d u j q s t g) es ih = rw s (omega (arith, ap left_at q, left_served b k p x d u n j))
+  never_more_step e y (works j w q s t g) es ih = rw s (omega (arith, ap left_at q, left_served b k p x j n w))
   never_more_step e y (ends q s t g f) es ih = rw s (omega (arith, ap left_at q))
   never_more_step e y (clears q s t g f h) es ih = rw s (omega (arith, ap left_at q))
 
   -- a place whose job waits cannot arrive: its deadline would have passed before
-  no_arrival : (d u : ℕ) → x.job ≡ waiting d u → too_soon b.clock x.duty.spacing x.last ≡ false → ⊥
-  no_arrival d u j soon =
+  no_arrival : (j : Job) → x.job ≡ Some j → too_soon b.clock x.duty.spacing x.last ≡ false → ⊥
+  no_arrival j w soon =
       let s = sound_at b k p x n in
-      let w = pending b.clock x d u s j in
-      let late = ltb-false b.clock (w.since + x.duty.spacing) (rw w.was at soon) in
-      omega (arith, w.due_is, s.timed.constrained, late, not_overdue b k p x d u n j)
+      let a = pending b.clock x j s w in
+      let late = ltb-false b.clock (a.since + x.duty.spacing) (rw a.was at soon) in
+      omega (arith, a.due_is, s.timed.constrained, late, not_overdue b k p x j n w)
 
-  in_full_step : (d u : ℕ) → x.job ≡ waiting d u → (e : Event) → ends_job p e ≡ false → (y : Place) → Effect p b.clock e x y → (es : List Event) → job_got p es ≤ left y.job → ((v : ℕ) → y.job ≡ waiting d v → job_got p es ≡ v) → job_got p (e ∷ es) ≡ u
-  in_full_step d u j e f y (begins q s t g soon) es le ih = absurd (no_arrival d u j soon)
-  in_full_step d u j e f y (stays q s g) es le ih = rw s (omega (arith, ih u (ap (λ (z : Place). z.job) q ∙ j)))
-  in_full_step d u j e f y (works d' u' j' q s t g) es le ih =
-      let w = pending b.clock x d u (sound_at b k p x n) j in
-      let c : y.job ≡ spent (waiting d u) = ap (λ (z : Place). z.job) q ∙ ap spent j in
+  in_full_step : (j : Job) → x.job ≡ Some j → (e : Event) → ends_job p e ≡ false → (y : Place) → Effect p b.clock e x y → (es : List Event) → job_got p es ≤ left y.job → ((v : ℕ) → y.job ≡ Some (record { deadline = j.deadline; units = v }) → job_got p es ≡ v) → job_got p (e ∷ es) ≡ j.units
+  in_full_step j w e f y (begins q s t g soon) es le ih = absurd (no_arrival j w soon)
+  in_full_step j w e f y (stays q s g) es le ih = rw s (omega (arith, ih j.units (ap (λ (z : Place). z.job) q ∙ w)))
+  in_full_step j w e f y (works j' w' q s t g) es le ih =
+      let a = pending b.clock x j (sound_at b k p x n) w in
+      let c : y.job ≡ spent (Some j) = ap (λ (z : Place). z.job) q ∙ ap spent w in
       ⊎_elim
-      (λ (more : 1 < u).
-      let c' : y.job ≡ waiting d (u - 1) = rw (lt-ltb 1 u more) at c in
-      rw s (omega (arith, ih (u - 1) c')))
-      (λ (last : u ≤ 1).
-      let c' : y.job ≡ idle = rw (le-ltb 1 u last) at c in
-      rw s (omega (arith, ap left c', w.some_left)))
-      (cases_lt 1 u)
-  in_full_step d u j e f y (ends q s t g h) es le ih = absurd (both_ways (ends_job p e) f h)
-  in_full_step d u j e f y (clears q s t g c h) es le ih = absurd (both_ways (ends_job p e) f h)
+      (λ (more : 1 < j.units).
+      let c' : y.job ≡ Some (record { deadline = j.deadline; units = j.units - 1 }) = rw (lt-ltb 1 j.units more) at c in
+      rw s (omega (arith, ih (j.units - 1) c')))
+      (λ (last : j.units ≤ 1).
+      let c' : y.job ≡ None = rw (le-ltb 1 j.units last) at c in
+      rw s (omega (arith, ap left c', a.some_left)))
+      (cases_lt 1 j.units)
+  in_full_step j w e f y (ends q s t g h) es le ih = absurd (both_ways (ends_job p e) f h)
+  in_full_step j w e f y (clears q s t g c h) es le ih = absurd (both_ways (ends_job p e) f h)
 
 pub never_more : (b : Board) → Kept b → (p : ℕ) (x : Place) → slice_get b.places p ≡ Some x → (es : List Event) → Answered b es → job_got p es ≤ left x.job
 never_more b k p x n [] h = omega arith
@@ -77,15 +76,15 @@ never_more b k p x n (e ∷ es) h =
     never_more_step b k p x n e m.later m.how es (never_more (step b e.call).board (kept_step b k e.call) p m.later m.there es h.1)
 
 -- once the clock has reached the deadline of a waiting job that was left alone, it has got all its units
-pub in_full : (b : Board) → Kept b → (p : ℕ) (x : Place) (d u : ℕ) → slice_get b.places p ≡ Some x → x.job ≡ waiting d u → (es : List Event) → Answered b es → d ≤ b.clock + clock es → Undisturbed p es → job_got p es ≡ u
-in_full b k p x d u n j [] h due q = absurd (omega (arith, not_overdue b k p x d u n j))
-in_full b k p x d u n j (e ∷ es) h due q =
+pub in_full : (b : Board) → Kept b → (p : ℕ) (x : Place) (j : Job) → slice_get b.places p ≡ Some x → x.job ≡ Some j → (es : List Event) → Answered b es → j.deadline ≤ b.clock + clock es → Undisturbed p es → job_got p es ≡ j.units
+in_full b k p x j n w [] h due q = absurd (omega (arith, not_overdue b k p x j n w))
+in_full b k p x j n w (e ∷ es) h due q =
     let m = moved b p x n e h.0 in
     let b' = (step b e.call).board in
     let k' = kept_step b k e.call in
-    in_full_step b k p x n d u j e q.0 m.later m.how es
+    in_full_step b k p x n j w e q.0 m.later m.how es
     (never_more b' k' p m.later m.there es h.1)
-    (λ v j'. in_full b' k' p m.later d v m.there j' es h.1 (omega (arith, m.clock_is)) q.1)
+    (λ v w'. in_full b' k' p m.later (record { deadline = j.deadline; units = v }) m.there w' es h.1 (omega (arith, m.clock_is)) q.1)
 
 -- what an accepted arrival says of its place
 record Accepted (b : Board) (p : ℕ) (answer : Answer) : Type 0 where
@@ -106,7 +105,7 @@ accepted_says b p answer ok a = go (slice_get b.places p) refl a
 begun : (p c : ℕ) (e : Event) (x y : Place) → arrives p e ≡ true → Effect p c e x y → y ≡ after c (arrive p) x
 begun p c e x y h (begins q s t g soon) = q
 begun p c e x y h (stays q s g) = absurd (both_ways (arrives p e) s h)
-begun p c e x y h (works d u j q s t g) = absurd (both_ways (arrives p e) s h)
+begun p c e x y h (works j w q s t g) = absurd (both_ways (arrives p e) s h)
 begun p c e x y h (ends q s t g f) = absurd (both_ways (arrives p e) s h)
 begun p c e x y h (clears q s t g f l) = absurd (both_ways (arrives p e) s h)
 
@@ -125,14 +124,15 @@ each_job ds timed bounded events answered before after p answer cut ok =
     let b' = (step b (arrive p)).board in
     let k' = kept_step b k (arrive p) in
     let zero_clock : b.clock ≡ clock before = omega (arith, reading) in
-    let j : m.later.job ≡ waiting (b.clock + x.duty.deadline) x.duty.cost = ap (λ (z : Place). z.job) y in
+    let job : Job = record { deadline = b.clock + x.duty.deadline; units = x.duty.cost } in
+    let j : m.later.job ≡ Some job = ap (λ (z : Place). z.job) y in
     record {
       duty = x.duty;
       there = subst (λ (l : List Timing). slice_get l p ≡ Some x.duty) (still_loaded ds before) (nth_map (λ (z : Place). z.duty) b.places p x a.there);
       answered = a.answer_is ∙ ap (λ (c : ℕ). granted (c + x.duty.deadline) x.duty.cost) zero_clock;
       never_more = omega (arith, ap left j, never_more b' k' p m.later m.there after from.1);
       by_its_deadline = λ between rest cut' reach quiet.
-          in_full b' k' p m.later (b.clock + x.duty.deadline) x.duty.cost m.there j between
+          in_full b' k' p m.later job m.there j between
           (answered_left b' between rest (subst (Answered b') cut' from.1))
           (omega (arith, zero_clock, m.clock_is, reach))
           quiet;

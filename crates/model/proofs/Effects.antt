@@ -4,7 +4,6 @@ use Rattle.std.specs.List.{slice_get}
 use Rattle.std.proofs.lemmas.Bool.{cond_both, cases_eq, eq-eqb, ne_eqb, and_right}
 use Rattle.queue.specs.First.{earliest}
 use Rattle.model.specs.declared.jobs.Job.{Job}
-use Rattle.model.specs.declared.jobs.Job.TheVariants.{Idle as idle, Waiting as waiting}
 use Rattle.model.specs.declared.calls.Call.{Call}
 use Rattle.model.specs.declared.calls.Call.TheVariants.{Arrive as arrive, Tick as tick, Finish as finish, GeneralCancel as cancel}
 use Rattle.model.specs.declared.calls.Answer.{Answer}
@@ -20,7 +19,7 @@ use Rattle.model.proofs.Firsts.{Leads, Told, told}
 pub data Effect (p c : ℕ) (e : Event) (x y : Place) : Type 0 where
   begins : y ≡ after c (arrive p) x → arrives p e ≡ true → ticks_in e ≡ 0 → gets p e ≡ 0 → too_soon c x.duty.spacing x.last ≡ false → Effect p c e x y
   stays : y ≡ x → arrives p e ≡ false → gets p e ≡ 0 → Effect p c e x y
-  works : (d u : ℕ) → x.job ≡ waiting d u → y ≡ after c tick x → arrives p e ≡ false → ticks_in e ≡ 1 → gets p e ≡ 1 → Effect p c e x y
+  works : (j : Job) → x.job ≡ Some j → y ≡ after c tick x → arrives p e ≡ false → ticks_in e ≡ 1 → gets p e ≡ 1 → Effect p c e x y
   ends : y ≡ after c (finish p) x → arrives p e ≡ false → ticks_in e ≡ 0 → gets p e ≡ 0 → ends_job p e ≡ true → Effect p c e x y
   clears : y ≡ after c cancel x → arrives p e ≡ false → ticks_in e ≡ 0 → gets p e ≡ 0 → is_cancel e.call ≡ true → ends_job p e ≡ true → Effect p c e x y
 
@@ -65,7 +64,7 @@ module _ (b : Board) (p : ℕ) (x : Place) (n : slice_get b.places p ≡ Some x)
       record {
         later = after b.clock tick f.place;
         there = rw same (nth_set_same b.places p x (after b.clock tick f.place) n);
-        how = works f.deadline f.units (ap (λ (z : Place). z.job) (sym yx) ∙ f.waits) (ap (after b.clock tick) yx) refl refl (rw (eq-eqb q p same));
+        how = works f.job (ap (λ (z : Place). z.job) (sym yx) ∙ f.waits) (ap (after b.clock tick) yx) refl refl (rw (eq-eqb q p same));
         clock_is = refl;
       })
       (λ other. record { later = x; there = elsewhere q _ other; how = stays refl refl (rw (ne_eqb q p other)); clock_is = refl })
@@ -107,9 +106,9 @@ module _ (b : Board) (p : ℕ) (x : Place) (n : slice_get b.places p ≡ Some x)
       go (Some q) h = at q h
   moves (finish q) = go (slice_get b.places q) refl
     where
-      at : (y : Place) → slice_get b.places q ≡ Some y → (j : Job) → Moves p b.clock (finish q) x (finishing_job b q y j)
-      at y m idle = record { later = x; there = n; how = stays refl refl refl; clock_is = omega arith }
-      at y m (waiting e u) = finished_at q y u m
+      at : (y : Place) → slice_get b.places q ≡ Some y → (j : Option Job) → Moves p b.clock (finish q) x (finishing_job b q y j)
+      at y m None = record { later = x; there = n; how = stays refl refl refl; clock_is = omega arith }
+      at y m (Some j) = finished_at q y j.units m
 
       go : (o : Option Place) → slice_get b.places q ≡ o → Moves p b.clock (finish q) x (finishing b q o)
       go None m = record { later = x; there = n; how = stays refl refl refl; clock_is = omega arith }

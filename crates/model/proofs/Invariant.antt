@@ -7,13 +7,12 @@ use Rattle.duty.specs.Demand.{demand}
 use Rattle.duty.specs.Sums.{total}
 use Rattle.gauge.specs.Fairness.{Timed}
 use Rattle.model.specs.declared.jobs.Job.{Job}
-use Rattle.model.specs.declared.jobs.Job.TheVariants.{Idle as idle, Waiting as waiting}
 use Rattle.model.specs.Boards.{Place, Board}
 
 -- the units left of a job that is due by t
-abbrev pub due_by : ℕ → Job → ℕ
-due_by t idle = 0
-due_by t (waiting deadline units) = cond (leb deadline t) units 0
+abbrev pub due_by : ℕ → Option Job → ℕ
+due_by t None = 0
+due_by t (Some j) = cond (leb j.deadline t) j.units 0
 
 -- the earliest clock at which the place can arrive next
 abbrev pub next_after : ℕ → ℕ → Option ℕ → ℕ
@@ -28,11 +27,11 @@ abbrev pub load : ℕ → ℕ → Place → ℕ
 load c t x = due_by t x.job + demand x.duty (t - next c x)
 
 -- a job that waits came with the last arrival, and has units left, at most its cost
-abbrev pub JobSound : ℕ → Timing → Option ℕ → Job → Type 0
-JobSound c d None idle = Unit {0}
-JobSound c d None (waiting deadline units) = ⊥
-JobSound c d (Some last) idle = last ≤ c
-JobSound c d (Some last) (waiting deadline units) = (last ≤ c) × (deadline ≡ last + d.deadline) × (1 ≤ units) × (units ≤ d.cost)
+abbrev pub JobSound : ℕ → Timing → Option ℕ → Option Job → Type 0
+JobSound c d None None = Unit {0}
+JobSound c d None (Some j) = ⊥
+JobSound c d (Some last) None = last ≤ c
+JobSound c d (Some last) (Some j) = (last ≤ c) × (j.deadline ≡ last + d.deadline) × (1 ≤ j.units) × (j.units ≤ d.cost)
 
 pub record Sound (c : ℕ) (x : Place) : Type 0 where
   pub timed : Timed x.duty

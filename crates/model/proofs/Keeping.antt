@@ -11,7 +11,6 @@ use Rattle.gauge.specs.Fairness.{Timed}
 use Rattle.gauge.specs.Totals.{total_le, total_map}
 use Rattle.queue.specs.First.{earliest}
 use Rattle.model.specs.declared.jobs.Job.{Job}
-use Rattle.model.specs.declared.jobs.Job.TheVariants.{Idle as idle, Waiting as waiting}
 use Rattle.model.specs.declared.calls.Call.{Call}
 use Rattle.model.specs.declared.calls.Call.TheVariants.{Arrive as arrive, Tick as tick, Finish as finish, GeneralCancel as cancel}
 use Rattle.model.specs.Boards.{Place, Board, fresh, loaded, due, dues}
@@ -61,45 +60,45 @@ load_rest : (c t : ℕ) (x : Place) → due_by t x.job ≡ 0 → load c t x ≤ 
 load_rest c t x z =
     omega (arith, z, demand_grows x.duty (t - next c x) (t - c) (omega (arith, next_least c x.duty.spacing x.last)))
 
-not_due : (t e : ℕ) (j : Job) → t < e → NoneBefore e (due j) → due_by t j ≡ 0
-not_due t e idle h n = refl
-not_due t e (waiting d u) h n = rw (lt-leb d t (omega arith))
+not_due : (t e : ℕ) (job : Option Job) → t < e → NoneBefore e (due job) → due_by t job ≡ 0
+not_due t e None h n = refl
+not_due t e (Some j) h n = rw (lt-leb j.deadline t (omega arith))
 
-idle_not_due : (t : ℕ) (j : Job) → due j ≡ None → due_by t j ≡ 0
-idle_not_due t idle n = refl
-idle_not_due t (waiting d u) n = absurd (none_some (sym n))
+idle_not_due : (t : ℕ) (job : Option Job) → due job ≡ None → due_by t job ≡ 0
+idle_not_due t None n = refl
+idle_not_due t (Some j) n = absurd (none_some (sym n))
 
 -- a tick takes one unit off the job that gets it, and adds none elsewhere
-due_spent : (t e u : ℕ) → 1 ≤ u → e ≤ t → due_by t (spent (waiting e u)) + 1 ≡ due_by t (waiting e u)
-due_spent t e u some h =
-    rw (le-leb e t h) (cond_both (ltb 1 u) (waiting e (u - 1)) idle (λ j. due_by t j + 1 ≡ u) (λ k. rw (le-leb e t h) (omega (arith, ltb-true 1 u k))) (λ k. omega (arith, ltb-false 1 u k)))
+due_spent : (t : ℕ) (j : Job) → 1 ≤ j.units → j.deadline ≤ t → due_by t (spent (Some j)) + 1 ≡ due_by t (Some j)
+due_spent t j some h =
+    rw (le-leb j.deadline t h) (cond_both (ltb 1 j.units) (Some (record { deadline = j.deadline; units = j.units - 1 })) None (λ o. due_by t o + 1 ≡ j.units) (λ k. rw (le-leb j.deadline t h) (omega (arith, ltb-true 1 j.units k))) (λ k. omega (arith, ltb-false 1 j.units k)))
 
-due_served : (t : ℕ) (j : Job) → due_by t (spent j) ≤ due_by t j
-due_served t idle = omega arith
-due_served t (waiting e u) =
-    cond_both (ltb 1 u) (waiting e (u - 1)) idle (λ j. due_by t j ≤ due_by t (waiting e u))
-    (λ k. ⊎_elim (λ (low : t < e). rw (lt-leb e t low) (omega arith)) (λ (high : e ≤ t). rw (le-leb e t high) (omega arith)) (cases_lt t e))
+due_served : (t : ℕ) (job : Option Job) → due_by t (spent job) ≤ due_by t job
+due_served t None = omega arith
+due_served t (Some j) =
+    cond_both (ltb 1 j.units) (Some (record { deadline = j.deadline; units = j.units - 1 })) None (λ o. due_by t o ≤ due_by t (Some j))
+    (λ k. ⊎_elim (λ (low : t < j.deadline). rw (lt-leb j.deadline t low) (omega arith)) (λ (high : j.deadline ≤ t). rw (le-leb j.deadline t high) (omega arith)) (cases_lt t j.deadline))
     (λ k. omega arith)
 
-job_later : (c : ℕ) (d : Timing) (last : Option ℕ) (j : Job) → JobSound c d last j → JobSound (c + 1) d last j
-job_later c d None idle h = tt
-job_later c d None (waiting e u) h = h
-job_later c d (Some a) idle h = omega arith
-job_later c d (Some a) (waiting e u) h = omega arith
+job_later : (c : ℕ) (d : Timing) (last : Option ℕ) (job : Option Job) → JobSound c d last job → JobSound (c + 1) d last job
+job_later c d None None h = tt
+job_later c d None (Some j) h = h
+job_later c d (Some a) None h = omega arith
+job_later c d (Some a) (Some j) h = omega arith
 
 sound_later : (c : ℕ) (x : Place) → Sound c x → Sound (c + 1) x
 sound_later c x s = record { timed = s.timed; job = job_later c x.duty x.last x.job s.job }
 
-job_ended : (c : ℕ) (d : Timing) (last : Option ℕ) (j : Job) → JobSound c d last j → JobSound c d last idle
-job_ended c d None j h = tt
-job_ended c d (Some a) idle h = h
-job_ended c d (Some a) (waiting e u) h = h.0
+job_ended : (c : ℕ) (d : Timing) (last : Option ℕ) (job : Option Job) → JobSound c d last job → JobSound c d last None
+job_ended c d None job h = tt
+job_ended c d (Some a) None h = h
+job_ended c d (Some a) (Some j) h = h.0
 
-job_spent : (c : ℕ) (d : Timing) (last : Option ℕ) (j : Job) → JobSound c d last j → JobSound c d last (spent j)
-job_spent c d last idle h = h
-job_spent c d None (waiting e u) h = absurd h
-job_spent c d (Some a) (waiting e u) h =
-    cond_both (ltb 1 u) (waiting e (u - 1)) idle (JobSound c d (Some a)) (λ t. omega (arith, ltb-true 1 u t)) (λ t. h.0)
+job_spent : (c : ℕ) (d : Timing) (last : Option ℕ) (job : Option Job) → JobSound c d last job → JobSound c d last (spent job)
+job_spent c d last None h = h
+job_spent c d None (Some j) h = absurd h
+job_spent c d (Some a) (Some j) h =
+    cond_both (ltb 1 j.units) (Some (record { deadline = j.deadline; units = j.units - 1 })) None (JobSound c d (Some a)) (λ t. omega (arith, ltb-true 1 j.units t)) (λ t. h.0)
 
 -- whatever call concerns a sound place, it is sound after it
 sound_after : (c : ℕ) (call : Call) (x : Place) → Sound c x → Sound c (after c call x)
@@ -109,18 +108,18 @@ sound_after c (finish p) x s = record { timed = s.timed; job = job_ended c x.dut
 sound_after c cancel x s = record { timed = s.timed; job = tt }
 
 -- what a waiting job says of its place
-pub record Pending (c : ℕ) (x : Place) (deadline units : ℕ) : Type 0 where
+pub record Pending (c : ℕ) (x : Place) (j : Job) : Type 0 where
   pub since : ℕ
   pub was : x.last ≡ Some since
   pub past : since ≤ c
-  pub due_is : deadline ≡ since + x.duty.deadline
-  pub some_left : 1 ≤ units
-  pub not_more : units ≤ x.duty.cost
+  pub due_is : j.deadline ≡ since + x.duty.deadline
+  pub some_left : 1 ≤ j.units
+  pub not_more : j.units ≤ x.duty.cost
 
-pub pending : (c : ℕ) (x : Place) (e u : ℕ) → Sound c x → x.job ≡ waiting e u → Pending c x e u
-pending c x e u s j = go x.last refl (subst (JobSound c x.duty x.last) j s.job)
+pub pending : (c : ℕ) (x : Place) (j : Job) → Sound c x → x.job ≡ Some j → Pending c x j
+pending c x j s w = go x.last refl (subst (JobSound c x.duty x.last) w s.job)
   where
-    go : (last : Option ℕ) → x.last ≡ last → JobSound c x.duty last (waiting e u) → Pending c x e u
+    go : (last : Option ℕ) → x.last ≡ last → JobSound c x.duty last (Some j) → Pending c x j
     go None q h = absurd h
     go (Some a) q h = record { since = a; was = q; past = h.0; due_is = h.1; some_left = h.2; not_more = h.3 }
 
@@ -188,25 +187,25 @@ module _ (b : Board) (k : Kept b) where
         fits = λ t h.
             let q = total_set (load (c + 1) t) b.places p x y f.there in
             ⊎_elim
-            (λ (low : t < f.deadline).
-            omega (arith, q, due_served t x.job, rests t (All-weaker _ _ (λ z. not_due t f.deadline z.job low) b.places f.earliest_due)))
-            (λ (high : f.deadline ≤ t).
-            let one : due_by t (spent x.job) + 1 ≡ due_by t x.job = rw f.waits (due_spent t f.deadline f.units (pending c x f.deadline f.units (sound_at p x f.there) f.waits).some_left high) in
+            (λ (low : t < f.job.deadline).
+            omega (arith, q, due_served t x.job, rests t (All-weaker _ _ (λ z. not_due t f.job.deadline z.job low) b.places f.earliest_due)))
+            (λ (high : f.job.deadline ≤ t).
+            let one : due_by t (spent x.job) + 1 ≡ due_by t x.job = rw f.waits (due_spent t f.job (pending c x f.job (sound_at p x f.there) f.waits).some_left high) in
             omega (arith, q, one, k.fits t (omega arith), total_le (load (c + 1) t) (load c t) b.places (All-weaker _ _ (λ z s. load_later c t z) b.places k.sound)))
-            (cases_lt t f.deadline);
+            (cases_lt t f.job.deadline);
         sound = All-set (Sound (c + 1)) b.places p y (sound_later c y (sound_after c tick x (sound_at p x f.there))) sound_next;
       }
 
   -- no waiting job is overdue
-  pub not_overdue : (p : ℕ) (x : Place) (e u : ℕ) → slice_get b.places p ≡ Some x → x.job ≡ waiting e u → b.clock < e
-  not_overdue p x e u n j =
+  pub not_overdue : (p : ℕ) (x : Place) (j : Job) → slice_get b.places p ≡ Some x → x.job ≡ Some j → b.clock < j.deadline
+  not_overdue p x j n w =
       let c = b.clock in
       ⊎_elim
-      (λ (h : c < e). h)
-      (λ (h : e ≤ c).
-      let work : due_by c x.job ≡ u = rw j (rw (le-leb e c h)) in
-      absurd (omega (arith, work, (pending c x e u (sound_at p x n) j).some_left, k.fits c (omega arith), total_has (load c c) b.places p x n)))
-      (cases_lt c e)
+      (λ (h : c < j.deadline). h)
+      (λ (h : j.deadline ≤ c).
+      let work : due_by c x.job ≡ j.units = rw w (rw (le-leb j.deadline c h)) in
+      absurd (omega (arith, work, (pending c x j (sound_at p x n) w).some_left, k.fits c (omega arith), total_has (load c c) b.places p x n)))
+      (cases_lt c j.deadline)
 
   pub kept_step : (call : Call) → Kept (step b call).board
   kept_step (arrive p) = go (slice_get b.places p) refl
@@ -226,9 +225,9 @@ module _ (b : Board) (k : Kept b) where
       go (Some p) h = at p h
   kept_step (finish p) = go (slice_get b.places p) refl
     where
-      at : (x : Place) → slice_get b.places p ≡ Some x → (j : Job) → Kept (finishing_job b p x j).board
-      at x n idle = k
-      at x n (waiting e u) = kept_finish p x n
+      at : (x : Place) → slice_get b.places p ≡ Some x → (j : Option Job) → Kept (finishing_job b p x j).board
+      at x n None = k
+      at x n (Some j) = kept_finish p x n
 
       go : (o : Option Place) → slice_get b.places p ≡ o → Kept (finishing b p o).board
       go None n = k

@@ -6,7 +6,6 @@ use Rattle.fault.specs.declared.Cause.TheVariants.{ClockFull}
 use Rattle.duty.specs.declared.timings.Timing.{Timing}
 use Rattle.queue.specs.First.{earliest}
 use Rattle.model.specs.declared.jobs.Job.{Job}
-use Rattle.model.specs.declared.jobs.Job.TheVariants.{Idle as idle, Waiting as waiting}
 use Rattle.model.specs.declared.calls.Call.{Call}
 use Rattle.model.specs.declared.calls.Call.TheVariants.{Arrive as arrive, Tick as tick, Finish as finish, GeneralCancel as cancel}
 use Rattle.model.specs.declared.calls.Answer.{Answer}
@@ -60,9 +59,9 @@ clock_step b tick =
     cond_both (ltb b.clock clock_limit) (ticking b (earliest (dues b.places))) (refusing b ClockFull) (Clocked b tick) (λ t. refl) (λ t. omega arith)
 clock_step b (finish p) = go (slice_get b.places p)
   where
-    at : (x : Place) (j : Job) → Clocked b (finish p) (finishing_job b p x j)
-    at x idle = omega arith
-    at x (waiting e u) = omega arith
+    at : (x : Place) (j : Option Job) → Clocked b (finish p) (finishing_job b p x j)
+    at x None = omega arith
+    at x (Some j) = omega arith
 
     go : (o : Option Place) → Clocked b (finish p) (finishing b p o)
     go None = omega arith
@@ -105,9 +104,9 @@ duties_step b tick =
     go (Some p) = at p (slice_get b.places p) refl
 duties_step b (finish p) = go (slice_get b.places p) refl
   where
-    at : (x : Place) → slice_get b.places p ≡ Some x → (j : Job) → SameDuties b (finishing_job b p x j)
-    at x n idle = refl
-    at x n (waiting e u) = same_set b p x (finish p) n
+    at : (x : Place) → slice_get b.places p ≡ Some x → (j : Option Job) → SameDuties b (finishing_job b p x j)
+    at x n None = refl
+    at x n (Some j) = same_set b p x (finish p) n
 
     go : (o : Option Place) → slice_get b.places p ≡ o → SameDuties b (finishing b p o)
     go None n = refl

@@ -1,5 +1,5 @@
 -- How many ticks a duty can get in a window.
-use Rattle.std.proofs.Common.{◌≡◌, ℕ, ◌+◌, ◌-◌, ◌*◌, ◌/◌, ◌<◌, ◌≤◌, max, false, List, [], ◌∷◌, ◌++◌, Some, sym, refl, ap, ◌∙◌, subst, ⊎_elim, le_trans, mul-le-mul_left, le-div_iff_mul-le, div-mul-le_self, arith}
+use Rattle.std.proofs.Common.{◌≡◌, ℕ, ◌+◌, ◌-◌, ◌*◌, ◌/◌, ◌<◌, ◌≤◌, max, false, List, [], ◌∷◌, ◌++◌, Some, sym, refl, ap, ◌∙◌, subst, ⊎_elim, le_trans, mul-le-mul_left, le-div_iff_mul-le, div-mul-le_self, arith, None, Option}
 use native.Mathlib.Nat.{div-eq_of_lt, div-eq-sub-div}
 use Rattle.std.specs.List.{slice_get, AllByRecursion}
 use Rattle.std.proofs.lemmas.Bool.{cases_lt, both_ways}
@@ -7,7 +7,6 @@ use Rattle.duty.specs.declared.timings.Timing.{Timing}
 use Rattle.duty.specs.Demand.{demands}
 use Rattle.gauge.specs.Fairness.{Timed}
 use Rattle.model.specs.declared.jobs.Job.{Job}
-use Rattle.model.specs.declared.jobs.Job.TheVariants.{Idle as idle, Waiting as waiting}
 use Rattle.model.specs.declared.calls.Event.{Event}
 use Rattle.model.specs.Boards.{Place, Board, loaded}
 use Rattle.model.specs.Steps.{step}
@@ -58,7 +57,7 @@ room_falls c c' end x s h =
 gets_a_tick : (p c : ℕ) (e : Event) (x y : Place) → Effect p c e x y → gets p e ≤ ticks_in e
 gets_a_tick p c e x y (begins q s t g soon) = omega arith
 gets_a_tick p c e x y (stays q s g) = omega arith
-gets_a_tick p c e x y (works d u j q s t g) = omega arith
+gets_a_tick p c e x y (works j w q s t g) = omega arith
 gets_a_tick p c e x y (ends q s t g f) = omega arith
 gets_a_tick p c e x y (clears q s t g f h) = omega arith
 
@@ -88,8 +87,8 @@ module _ (b : Board) (k : Kept b) (p : ℕ) (x : Place) (n : slice_get b.places 
       (cases_lt (clock es) 1)
   room_step e f c' ck y (stays q s g) es end en le ih =
       omega (arith, ap (room c' end) q, room_falls b.clock c' end x (sound_at b k p x n) (omega arith))
-  room_step e f c' ck y (works d u j q s t g) es end en le ih =
-      omega (arith, ap (room c' end) q, left_served b k p x d u n j, room_falls b.clock c' end x (sound_at b k p x n) (omega arith))
+  room_step e f c' ck y (works j w q s t g) es end en le ih =
+      omega (arith, ap (room c' end) q, left_served b k p x j n w, room_falls b.clock c' end x (sound_at b k p x n) (omega arith))
   room_step e f c' ck y (ends q s t g h) es end en le ih =
       omega (arith, ap (room c' end) q, room_falls b.clock c' end x (sound_at b k p x n) (omega arith))
   room_step e f c' ck y (clears q s t g c h) es end en le ih = absurd (both_ways (is_cancel e.call) f c)
@@ -102,8 +101,8 @@ module _ (b : Board) (k : Kept b) (p : ℕ) (x : Place) (n : slice_get b.places 
       s : Sound b.clock x
       s = sound_at b k p x n
 
-      go : (j : Job) → x.job ≡ j → room b.clock (b.clock + w) x ≤ x.duty.cost * (1 + (w + x.duty.deadline - 2) / x.duty.spacing)
-      go idle j =
+      go : (o : Option Job) → x.job ≡ o → room b.clock (b.clock + w) x ≤ x.duty.cost * (1 + (w + x.duty.deadline - 2) / x.duty.spacing)
+      go None q =
           let pos = some_spacing b.clock x s in
           let least = next_least b.clock x.duty.spacing x.last in
           let some : 1 ≤ x.duty.deadline = omega (arith, s.timed.positive, s.timed.feasible) in
@@ -111,11 +110,11 @@ module _ (b : Board) (k : Kept b) (p : ℕ) (x : Place) (n : slice_get b.places 
           let r₁ : (w + x.duty.spacing - 1) / x.duty.spacing ≡ (w + x.duty.spacing - 1 - x.duty.spacing) / x.duty.spacing + 1 = div-eq-sub-div pos (omega arith) in
           let r₂ = div_grows (w + x.duty.spacing - 1 - x.duty.spacing) (w + x.duty.deadline - 2) x.duty.spacing pos (omega arith) in
           let r₃ : (b.clock + w - next b.clock x + x.duty.spacing - 1) / x.duty.spacing ≤ 1 + (w + x.duty.deadline - 2) / x.duty.spacing = omega (arith, r, r₁, r₂) in
-          omega (arith, ap left j, mul-le-mul_left x.duty.cost r₃)
-      go (waiting e u) j =
-          let a = pending b.clock x e u s j in
+          omega (arith, ap left q, mul-le-mul_left x.duty.cost r₃)
+      go (Some j) q =
+          let a = pending b.clock x j s q in
           let pos = some_spacing b.clock x s in
-          let early = not_overdue b k p x e u n j in
+          let early = not_overdue b k p x j n q in
           let at : next b.clock x ≡ max b.clock (a.since + x.duty.spacing) = ap (next_after b.clock x.duty.spacing) a.was in
           let r : (b.clock + w - next b.clock x + x.duty.spacing - 1) / x.duty.spacing ≤ (w + x.duty.deadline - 2) / x.duty.spacing =
           ⊎_elim
@@ -125,7 +124,7 @@ module _ (b : Board) (k : Kept b) (p : ℕ) (x : Place) (n : slice_get b.places 
           let z : (b.clock + w - next b.clock x + x.duty.spacing - 1) / x.duty.spacing ≡ 0 = div-eq_of_lt (omega arith) in
           omega (arith, z))
           (cases_lt (next b.clock x) (b.clock + w)) in
-          omega (arith, ap left j, a.not_more, mul-le-mul_left x.duty.cost r)
+          omega (arith, ap left q, a.not_more, mul-le-mul_left x.duty.cost r)
 
 got_in_room : (b : Board) → Kept b → (p : ℕ) (x : Place) → slice_get b.places p ≡ Some x → (es : List Event) → Answered b es → Uncancelled es → (end : ℕ) → end ≡ b.clock + clock es → got p es ≤ room b.clock end x
 got_in_room b k p x n [] h u end en = omega arith

@@ -8,7 +8,6 @@ use Rattle.fault.specs.Faults.{fault}
 use Rattle.duty.specs.declared.timings.Timing.{Timing}
 use Rattle.queue.specs.First.{earliest}
 use Rattle.model.specs.declared.jobs.Job.{Job}
-use Rattle.model.specs.declared.jobs.Job.TheVariants.{Idle as idle, Waiting as waiting}
 use Rattle.model.specs.declared.calls.Call.{Call}
 use Rattle.model.specs.declared.calls.Call.TheVariants.{Arrive as arrive, Tick as tick, Finish as finish, GeneralCancel as cancel}
 use Rattle.model.specs.declared.calls.Answer.{Answer}
@@ -26,16 +25,16 @@ too_soon c spacing None = false
 too_soon c spacing (Some last) = nat_lt c (last + spacing)
 
 -- a job that got one tick: it has one unit less, and ends at none left
-abbrev pub spent : Job → Job
-spent idle = idle
-spent (waiting deadline units) = cond (nat_lt 1 units) (waiting deadline (units - 1)) idle
+abbrev pub spent : Option Job → Option Job
+spent None = None
+spent (Some j) = cond (nat_lt 1 j.units) (Some (record { deadline = j.deadline; units = j.units - 1 })) None
 
 -- the job of a place after an accepted call that concerns the place, made at the clock c
-abbrev pub job_after : ℕ → Timing → Job → Call → Job
-job_after c d j (arrive p) = waiting (c + d.deadline) d.cost
+abbrev pub job_after : ℕ → Timing → Option Job → Call → Option Job
+job_after c d j (arrive p) = Some (record { deadline = c + d.deadline; units = d.cost })
 job_after c d j tick = spent j
-job_after c d j (finish p) = idle
-job_after c d j cancel = idle
+job_after c d j (finish p) = None
+job_after c d j cancel = None
 
 -- and its last accepted arrival
 abbrev pub last_after : ℕ → Option ℕ → Call → Option ℕ
@@ -70,9 +69,9 @@ arriving b p (Some x) =
     cond (too_soon b.clock x.duty.spacing x.last) (refusing b TooSoon) (accepting b (arrive p) p x (granted (b.clock + x.duty.deadline) x.duty.cost))
 
 -- finish: a job has to wait there
-abbrev pub finishing_job : Board → ℕ → Place → Job → Outcome
-finishing_job b p x idle = refusing b NoJob
-finishing_job b p x (waiting deadline units) = accepting b (finish p) p x (finished units)
+abbrev pub finishing_job : Board → ℕ → Place → Option Job → Outcome
+finishing_job b p x None = refusing b NoJob
+finishing_job b p x (Some j) = accepting b (finish p) p x (finished j.units)
 
 abbrev pub finishing : Board → ℕ → Option Place → Outcome
 finishing b p None = refusing b NoSuchPlace

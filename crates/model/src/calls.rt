@@ -38,7 +38,8 @@ pub struct Event {
 }
 
 impl Event {
-    // A call that is still to be made; its answer says nothing yet.
+    // A call that is still to be made; its answer says nothing yet. An `Option` would say so too, but all that counts
+    // over events would have to pass over it.
     pub fn of(call: Call) -> Event
         ensures { result ≡ unanswered call }
     {

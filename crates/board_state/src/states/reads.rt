@@ -9,13 +9,12 @@ ghost use Rattle.board_state.specs.Views.{seen};
 
 use super::State;
 use crate::places::Place;
-use model::Job;
 
 impl State {
     // The place, if there is one of this number.
     pub fn place(&self, p: usize) -> Option<Place>
         ensures place { option_map seen result ≡ slice_get (board_of self.now).places p }
-        ensures arrived { IfSome result (λ x. past self.now.clock x ≡ true) }
+        ensures arrived { IfSome result (λ x. past self.now.clock.ticks x ≡ true) }
     {
         if p >= self.count {
             return None;
@@ -27,12 +26,6 @@ impl State {
     pub fn due(&self, p: usize) -> Option<u64>
         ensures { result ≡ due_at (slice_get (board_of self.now).places p) }
     {
-        match self.place(p) {
-            Some(place) => match place.job {
-                Job::Idle => None,
-                Job::Waiting { deadline, .. } => Some(deadline),
-            },
-            None => None,
-        }
+        self.place(p)?.job.map(|job| job.deadline)
     }
 }

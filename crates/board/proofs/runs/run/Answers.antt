@@ -11,7 +11,7 @@ pub returns : goal.returns
 returns g c =
     let ok = c.in_default.ensures in
     let start = c.load-running.ensures in
-    let played = c.play.ensures start.in_step in
+    let played = c.play.ensures in
     let before = calls c.args.events.now in
     let ds = list_of c.args.plan.now c.args.number in
     record {

@@ -1,4 +1,4 @@
-use Rattle.std.proofs.Common.{◌≡◌, ℕ, ◌-◌, true, List, take, IfOk, refl, ap, ◌∙◌, subst, arith}
+use Rattle.std.proofs.Common.{◌≡◌, true, List, IfOk, refl, ap, ◌∙◌, subst}
 use Rattle.duty.specs.declared.records.Record.{Record}
 use Rattle.duty.specs.declared.timings.Timing.{Timing}
 use Rattle.duty.specs.Heads.{head}
@@ -15,8 +15,7 @@ returns g c =
     let few = c.args.header.few_duties in
     let passes = g.G.Gauge.passed c.args.gauge in
     let number = c.args.number in
-    let same : c.copy_rows-n.result - 0 ≡ c.copy_rows-n.result = omega arith in
-    let rows = ap (λ (k : ℕ). take k c.copy_rows-n.new.rows) same ∙ c.copy_rows-n.ensures.value in
+    let rows = c.copy_rows-n.ensures.value in
     let same_list = ap (λ (l : List Record). listed h l number) rows ∙ same_listed h rs 64 few number in
     record {
       answer = c.run_rows.ensures.answer ∙ ap (λ (l : List Record). run_fault passes h l number) rows ∙ same_fault h rs 64 few passes number;

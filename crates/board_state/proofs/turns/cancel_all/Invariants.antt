@@ -4,6 +4,6 @@ use Rattle.model.specs.Steps.{after}
 use Rattle.board_state.specs.Views.{seen}
 use Rattle.board_state.proofs.turns.cancel_all.Given as goal
 
-abbrev pub invariant-loop-i : goal.invariant-loop-i
-invariant-loop-i l =
-    map seen (take l.i l.places) ++ map (after l.clock GeneralCancel) (map seen (drop l.i l.places)) ≡ map (after l.clock GeneralCancel) (map seen l.initial.places)
+abbrev pub invariant-loop-place : goal.invariant-loop-place
+invariant-loop-place l =
+    map seen (take l.place-index l.places) ++ map (after l.clock.ticks GeneralCancel) (map seen (drop l.place-index l.places)) ≡ map (after l.clock.ticks GeneralCancel) (map seen l.initial.places)

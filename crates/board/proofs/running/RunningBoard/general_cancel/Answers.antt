@@ -8,14 +8,9 @@ use Rattle.board_state.specs.BoardOf.{board_of}
 use Rattle.board_state.specs.Views.{seen}
 use Rattle.board.proofs.running.RunningBoard.general_cancel.Goals as goal
 
-pub returns : goal.returns
-returns g c =
+pub invariant_of-self : goal.invariant_of-self
+invariant_of-self g c =
     let s = c.args.self.now.state in
     let few : length (take s.count s.places) ≤ width = simp length-take (omega (arith, s.few, s.wide)) in
     let few' : length (map seen (take s.count s.places)) ≤ width = omega (arith, few, length-map (take s.count s.places) seen) in
-    record {
-      answer_is = c.general_cancel-ended.ensures.answer;
-      board_is = c.general_cancel-ended.ensures.board;
-      queue_is = c.clear.ensures;
-      in_step = c.clear.ensures ∙ sym (padded_cancelled s.clock (board_of s).places few') ∙ ap (λ (x : Board). padded width (dues x.places)) (sym c.general_cancel-ended.ensures.board);
-    }
+    record { in_step = c.clear.ensures ∙ sym (padded_cancelled s.clock.ticks (board_of s).places few') ∙ ap (λ (x : Board). padded width (dues x.places)) (sym c.general_cancel-ended.ensures.board) }

@@ -1,33 +1,33 @@
-use Rattle.std.proofs.Common.{refl}
-use Rattle.model.specs.declared.calls.Answer.TheVariants.{Ran}
-use Rattle.board.specs.declared.running.RunningBoard.{RunningBoard}
-use Rattle.board.proofs.Settling.{ticked_at, ticked_none, ticked_first, told_first}
+use Rattle.std.proofs.Common.{refl, ap, ◌∙◌}
+use Rattle.model.specs.Steps.{Outcome}
+use Rattle.board_state.specs.BoardOf.{board_of}
+use Rattle.board.proofs.Settling.{settled_tick, ticks, foremost_ran}
 use Rattle.board.proofs.running.RunningBoard.tick.Goals as goal
+
+pub invariant_of-self-in-Some : goal.invariant_of-self-in-Some
+invariant_of-self-in-Some g c =
+    let before = c.args.self.now in
+    let done = c.in_ok-ran.ensures in
+    record { in_step = settled_tick (board_of before.state) _ before.in_step _ _ c.in-Some.is _ done.answer refl _ done.board _ c.settle.ensures }
 
 pub returns-in-Some : goal.returns-in-Some
 returns-in-Some g c =
-    let held = g.Q.ReadyQueue.held in
     let before = c.args.self.now in
-    let later : RunningBoard _ = record { state = c.tick.new.self; queue = c.settle.new.queue } in
-    let first = c.first-first.result in
-    let is = c.first-first.ensures.answer in
     let done = c.in_ok-ran.ensures in
+    let told = c.first-first.ensures.answer in
+    let step = ticks (board_of before.state) _ before.in_step _ told in
     record {
-      told = ticked_at held before later _ first c.in-Some.place c.due.result is c.in-Some.is done.answer refl done.board c.due.ensures c.settle.ensures;
-      first = ticked_first held before later _ first is done.answer done.board;
-      relation = told_first held before later (Ran c.in_ok-ran.ran) first c.in_ok-ran.ran is done.answer;
+      called = record { answer_is = done.answer ∙ ap (λ (o : Outcome). o.answer) step; board_is = done.board ∙ ap (λ (o : Outcome). o.board) step };
+      relation = foremost_ran (board_of before.state) _ before.in_step _ told _ done.answer;
     }
 
 pub returns-in_default : goal.returns-in_default
 returns-in_default g c =
-    let held = g.Q.ReadyQueue.held in
     let before = c.args.self.now in
-    let later : RunningBoard _ = record { state = c.tick.new.self; queue = before.queue } in
-    let first = c.first-first.result in
-    let is = c.first-first.ensures.answer in
     let done = c.in_ok-ran.ensures in
+    let told = c.first-first.ensures.answer in
+    let step = ticks (board_of before.state) _ before.in_step _ told in
     record {
-      told = ticked_none held before later _ first is c.in_default.is done.answer done.board refl;
-      first = ticked_first held before later _ first is done.answer done.board;
-      relation = told_first held before later (Ran c.in_ok-ran.ran) first c.in_ok-ran.ran is done.answer;
+      called = record { answer_is = done.answer ∙ ap (λ (o : Outcome). o.answer) step; board_is = done.board ∙ ap (λ (o : Outcome). o.board) step };
+      relation = foremost_ran (board_of before.state) _ before.in_step _ told _ done.answer;
     }

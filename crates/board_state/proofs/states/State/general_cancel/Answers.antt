@@ -1,13 +1,11 @@
-use Rattle.std.proofs.Common.{◌≡◌, ℕ, ◌-◌, List, map, length, take, sym, ap, ◌∙◌, arith}
+use Rattle.std.proofs.Common.{◌≡◌, ℕ, List, map, length, take, sym, ap, ◌∙◌}
 use lib.ListN.{length-map}
 use Rattle.std.proofs.lemmas.List.{take-map}
-use Rattle.gauge.specs.Totals.{total_map}
-use Rattle.model.specs.declared.calls.Answer.TheVariants.{Cancelled}
 use Rattle.model.specs.declared.calls.Call.TheVariants.{GeneralCancel}
-use Rattle.model.specs.Boards.{Place as Seen, one_if_waiting}
+use Rattle.model.specs.Boards.{Place as Seen}
 use Rattle.model.specs.Steps.{after}
 use Rattle.board_state.specs.declared.places.Place.{Place}
-use Rattle.board_state.specs.Views.{seen, jobs_of}
+use Rattle.board_state.specs.Views.{seen}
 use Rattle.board_state.proofs.Lasting.{none_past}
 use Rattle.board_state.proofs.states.State.general_cancel.Goals as goal
 
@@ -20,18 +18,12 @@ pub invariant_of-self : goal.invariant_of-self
 invariant_of-self c =
     let s = c.args.self.now in
     let ys = c.cancel_all.new.places in
-    let e = first_turned (after s.clock GeneralCancel) s.count s.places ys c.cancel_all.ensures in
-    let long : length (map seen ys) ≡ length (map (after s.clock GeneralCancel) (map seen s.places)) = ap length c.cancel_all.ensures in
-    let wide : length ys ≡ length s.places = sym (length-map ys seen) ∙ long ∙ length-map (map seen s.places) (after s.clock GeneralCancel) ∙ length-map s.places seen in
-    record { wide = wide ∙ s.wide; few = s.few; limit = s.limit; arrived = none_past s.clock (take s.count s.places) (take s.count ys) e }
+    let e = first_turned (after s.clock.ticks GeneralCancel) s.count s.places ys c.cancel_all.ensures in
+    let long : length (map seen ys) ≡ length (map (after s.clock.ticks GeneralCancel) (map seen s.places)) = ap length c.cancel_all.ensures in
+    let wide : length ys ≡ length s.places = sym (length-map ys seen) ∙ long ∙ length-map (map seen s.places) (after s.clock.ticks GeneralCancel) ∙ length-map s.places seen in
+    record { wide = wide ∙ s.wide; few = s.few; arrived = none_past s.clock.ticks (take s.count s.places) (take s.count ys) e }
 
-pub returns : goal.returns
-returns c =
+pub returns-clause-board : goal.returns-clause-board
+returns-clause-board c =
     let s = c.args.self.now in
-    let ys = c.cancel_all.new.places in
-    let e = first_turned (after s.clock GeneralCancel) s.count s.places ys c.cancel_all.ensures in
-    let z : s.count - 0 ≡ s.count = omega arith in
-    record {
-      answer = ap Cancelled (c.count_jobs-ended.ensures ∙ ap (λ (n : ℕ). jobs_of (take n s.places)) z ∙ sym (total_map (λ (x : Seen). one_if_waiting x.job) seen (take s.count s.places)));
-      board = ap (λ (l : List Seen). record { clock = s.clock; places = l }) e;
-    }
+    ap (λ (l : List Seen). record { clock = s.clock.ticks; places = l }) (first_turned (after s.clock.ticks GeneralCancel) s.count s.places c.cancel_all.new.places c.cancel_all.ensures)

@@ -1,10 +1,15 @@
-use Rattle.std.proofs.Common.{List, map, sym, ap, ◌∙◌}
-use Rattle.std.proofs.lemmas.List.{take_all}
+use Rattle.std.proofs.Common.{ap, ◌∙◌}
 use Rattle.duty.specs.declared.duties.Duty.{Duty}
-use Rattle.model.specs.Boards.{loaded}
-use Rattle.board_state.specs.Views.{timing_of}
+use Rattle.board_state.specs.BoardOf.{board_of, seating}
+use Rattle.board_state.proofs.Seating.{seated_more, seated_all}
 use Rattle.board_state.proofs.states.State.new.Goals as goal
+
+pub loop-duty-preserved : goal.loop-duty-preserved
+loop-duty-preserved c =
+    let before = board_of c.loop-duty.state in
+    let seated = c.seat.ensures ∙ ap (λ (d : Duty). seating before d.timing) c.duty-item.is in
+    seated_more before c.args.duties.now c.loop-duty.duty-index c.loop-duty.invariant _ c.duty-item.result c.loop-duty-test.true seated
 
 pub returns : goal.returns
 returns c =
-    c.start-2.ensures ∙ ap (λ (ds : List Duty). loaded (map timing_of ds)) (sym (take_all 64 c.args.duties.now c.if-duties-gt-PLACES.false))
+    seated_all _ c.args.duties.now c.loop-duty.duty-index c.loop-duty.invariant c.loop-duty-test.false

@@ -1,6 +1,5 @@
-use Rattle.std.proofs.Common.{◌≤◌, map, length, take, set, sym, refl, ap, ◌∙◌, arith, length-set, length-take}
-use lib.ListN.{length-map}
-use Rattle.std.proofs.lemmas.List.{map-set, set_past}
+use Rattle.std.proofs.Common.{map, take, set, ap, ◌∙◌, length-set}
+use Rattle.std.proofs.lemmas.List.{map-set}
 use Rattle.gauge.specs.Each.{each}
 use Rattle.model.specs.Boards.{Place as Seen}
 use Rattle.board_state.specs.Past.{past}
@@ -13,24 +12,13 @@ pub invariant_of-self : goal.invariant_of-self
 invariant_of-self c =
     let s = c.args.self.now in
     let y = c.turned-next.result in
-    let fresh = stays_past s.clock c.args.call c.args.place.now y c.turned-next.ensures c.requires in
-    let arrived = ap (each (past s.clock)) (take_set_in s.count s.places c.args.p y) ∙ each_set (past s.clock) (take s.count s.places) c.args.p y fresh s.arrived in
-    record { wide = length-set s.places c.args.p y ∙ s.wide; few = s.few; limit = s.limit; arrived = arrived }
+    let fresh = stays_past s.clock.ticks c.args.call c.args.place.now y c.turned-next.ensures c.requires in
+    let arrived = ap (each (past s.clock.ticks)) (take_set_in s.count s.places c.args.p y) ∙ each_set (past s.clock.ticks) (take s.count s.places) c.args.p y fresh s.arrived in
+    record { wide = length-set s.places c.args.p y ∙ s.wide; few = s.few; arrived = arrived }
 
-pub returns-then-p-lt-PLACES : goal.returns-then-p-lt-PLACES
-returns-then-p-lt-PLACES c =
+pub returns-then-p-lt-PLACES-clause-places : goal.returns-then-p-lt-PLACES-clause-places
+returns-then-p-lt-PLACES-clause-places c =
     let s = c.args.self.now in
     let y = c.turned-next.result in
     let xs = take s.count s.places in
-    record {
-      clock = refl;
-      places = ap (map seen) (take_set_in s.count s.places c.args.p y) ∙ map-set seen xs c.args.p y ∙ ap (λ (z : Seen). set (map seen xs) c.args.p z) c.turned-next.ensures;
-    }
-
-pub returns-else-p-lt-PLACES : goal.returns-else-p-lt-PLACES
-returns-else-p-lt-PLACES c =
-    let s = c.args.self.now in
-    let xs = take s.count s.places in
-    let short : length (take s.count s.places) ≤ c.args.p = simp length-take (omega (arith, s.few)) in
-    let past : length (map seen xs) ≤ c.args.p = omega (arith, length-map xs seen, short) in
-    record { clock = refl; places = sym (set_past (map seen xs) c.args.p _ past) }
+    ap (map seen) (take_set_in s.count s.places c.args.p y) ∙ map-set seen xs c.args.p y ∙ ap (λ (z : Seen). set (map seen xs) c.args.p z) c.turned-next.ensures
