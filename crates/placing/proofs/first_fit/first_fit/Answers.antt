@@ -46,8 +46,8 @@ loop-next-preserved g c =
       within = (all_shuffled (λ e. e.index < length c.args.records.now) _ _ removed.others l.invariant.within).1;
       few = omega (arith, fewer, l.invariant.few);
       left = goes_on (g.G.Gauge.passed c.args.gauge.now) _ _ l.records (held l.heap) (held c.pop.new.self) c.in-Some.next _ leaves.in_turn l.invariant.left c.place_one.new.records c.place_one.result _ c.place_one.ensures.answer c.in_ok-place_one.was c.place_one.ensures.records;
-      past = past_on _ (length (held l.heap)) _ (memory l.heap) (memory c.pop.new.self) l.invariant.few l.invariant.past removed.same_room removed.beyond;
-      named = told.named ∙ l.invariant.named;
+      past = past_on _ (length (held l.heap)) _ (memory l.heap) (memory c.pop.new.self) l.invariant.few l.invariant.past told.kept.same_room told.kept.beyond;
+      named = told.kept.named ∙ l.invariant.named;
     }
 
 -- this one fits no board
@@ -61,18 +61,19 @@ returns-in_err-place_one g c =
     record {
       records = end.0;
       answer = search (rules, end.1);
-      scratch = past_is _ _ _ _ (past_on _ (length (held l.heap)) _ (memory l.heap) (memory c.pop.new.self) l.invariant.few l.invariant.past removed.same_room removed.beyond) (search rules);
+      scratch = past_is _ _ _ _ (past_on _ (length (held l.heap)) _ (memory l.heap) (memory c.pop.new.self) l.invariant.few l.invariant.past told.kept.same_room told.kept.beyond) (search rules);
     }
 
 -- none is left
 pub returns : goal.returns
 returns g c =
     let l = c.loop-next in
-    let removed = c.in_default.ensures.removed in
+    let told = c.in_default.ensures in
+    let removed = told.removed in
     let empty : held l.heap ≡ [] = nil_from_length (held l.heap) (none_left (held l.heap) removed.which) in
     let end = ap (λ es. placed (g.G.Gauge.passed c.args.gauge.now) c.args.header.now.boards c.args.header.now.cycle l.records (taken es)) (sym empty) ∙ l.invariant.left in
     record {
       records = ap (λ r. r.0) end;
       answer = ap (λ r. placed_answer r.1) end;
-      scratch = past_is _ _ _ _ (past_on _ (length (held l.heap)) _ (memory l.heap) (memory c.pop.new.self) l.invariant.few l.invariant.past removed.same_room removed.beyond) (search rules);
+      scratch = past_is _ _ _ _ (past_on _ (length (held l.heap)) _ (memory l.heap) (memory c.pop.new.self) l.invariant.few l.invariant.past told.kept.same_room told.kept.beyond) (search rules);
     }
