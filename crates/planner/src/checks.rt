@@ -7,10 +7,11 @@ ghost use Rattle.gauge.specs.Letters.{letter_passed};
 ghost use Rattle.plans.specs.Closing.{close_fault};
 ghost use Rattle.planner.specs.Checks.{check_fault, Checks};
 
+use columns::Form;
 use duty::{Header, Record};
 use fault::Fault;
 use plans::OpenPlan;
-use reader::read_plan;
+use reader::read;
 
 // Whether what was read can be closed under the header's gauge. The records are as before.
 fn check_closing(header: Header, records: &mut [Record]) -> Result<(), Fault>
@@ -27,6 +28,6 @@ pub fn check(text: &[u8], records: &mut [Record]) -> Result<(), Fault>
     ensures law { Checks text.now records.old result }
     ensures records { records.new ≡ filled (sheet_of Plan (length records.old) text.now) records.old }
 {
-    let header = read_plan(text, records)?;
+    let header = read(Form::Plan, text, records)?;
     check_closing(header, records)
 }

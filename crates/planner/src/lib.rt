@@ -8,11 +8,12 @@ ghost use Rattle.writer.specs.Written.{length_in, out_in};
 ghost use Rattle.planner.specs.Laws.{Plans};
 ghost use Rattle.planner.specs.Plans.{plan_text, plan_records, ScratchKept};
 
+use columns::Form;
 use duty::{Header, Record};
 use fault::Fault;
 use placing::{Lined, place};
-use reader::read_table;
-use writer::write_plan;
+use reader::read;
+use writer::write;
 
 mod checks;
 #[cfg(test)]
@@ -35,7 +36,7 @@ pub fn plan(
     ensures records { records.new ≡ plan_records text.now records.old (length scratch.old) }
     ensures scratch { ScratchKept (sheet_of Table (length records.old) text.now) scratch.old scratch.new }
 {
-    let header = read_table(text, records)?;
+    let header = read(Form::Table, text, records)?;
     place(&header.letter(), &header, records, scratch)?;
-    write_plan(&header, records, out)
+    write(Form::Plan, &header, records, out)
 }

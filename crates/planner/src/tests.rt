@@ -1,29 +1,15 @@
 // The worked table: its plan, and its refusals.
 use super::plan;
 use duty::Record;
-use fault::{Cause, Fault, Layer};
+use fault::{Cause, Fault};
 use placing::Lined;
 use std::test::Fail;
 
 const TABLE: &[u8; 153] =
     b"RELAYS  2  4     120\nSHADES         4      12      24\nGREAT          2       5      10\nSWELL          3       6      12\nPEDAL          2       8      20\n";
 
-fn refused(cause: Cause, line: usize, column: usize) -> Fault {
-    Fault {
-        cause,
-        line,
-        column,
-        layer: Layer::Call,
-    }
-}
-
 fn boards(records: &[Record; 4]) -> [u8; 4] {
-    [
-        records[0].board,
-        records[1].board,
-        records[2].board,
-        records[3].board,
-    ]
+    records.map(|record| record.board)
 }
 
 #[test]
@@ -48,7 +34,7 @@ fn one_board(rt: HostRuntime) -> Result<(), Fail> {
     text[8] = b'1';
     let mut records = [Record::BLANK; 4];
     let mut out = [b'.'; 165];
-    let fault = refused(Cause::NoBoardFits, 5, 1);
+    let fault = Fault::of_call(Cause::NoBoardFits).at(5, 1);
     let answer = plan(&text, &mut records, &mut [Lined::UNUSED; 4], &mut out);
     assert!(rt; answer == Err(fault));
     assert!(rt; out == [b'.'; 165]);
@@ -66,13 +52,13 @@ fn short_memory(rt: HostRuntime) {
         &mut [Lined::UNUSED; 3],
         &mut out,
     );
-    assert!(rt; scratch == Err(refused(Cause::ScratchShort, 0, 0)));
+    assert!(rt; scratch == Err(Fault::of_call(Cause::ScratchShort)));
     let output = plan(
         TABLE,
         &mut [Record::BLANK; 4],
         &mut [Lined::UNUSED; 4],
         &mut out,
     );
-    assert!(rt; output == Err(refused(Cause::OutputShort, 0, 0)));
+    assert!(rt; output == Err(Fault::of_call(Cause::OutputShort)));
     assert!(rt; out == [b'.'; 164]);
 }

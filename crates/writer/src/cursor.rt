@@ -13,6 +13,7 @@ ghost use Rattle.writer.specs.Written.{whole};
 
 use columns::{
     BOARD, BOARDS, COST, CYCLE, DEADLINE, DUTIES, Field, Form, HEADER_WIDTH, LETTER_COLUMN, SPACING,
+    write_number,
 };
 use duty::{Header, Record};
 
@@ -53,7 +54,7 @@ impl<'a> Writer<'a> {
     {
         let at = self.pos + (field.first - 1);
         let width = field.last - (field.first - 1);
-        columns::write_number(&mut self.out[at..], width, n);
+        write_number(&mut self.out[at..], width, n).unwrap();
     }
 
     // Puts the end byte after the line's last column, and moves on to the next line.

@@ -20,5 +20,5 @@ returns c =
     let bs = c.args.text.now in
     let old = c.args.records.now in
     let read = c.in_ok-header.ensures in
-    let answer = c.check_closing.ensures.answer ∙ sym (read_fault bs old (head c.in_ok-header.header) c.read_plan.new.records read.answer read.after) in
+    let answer = c.check_closing.ensures.answer ∙ sym (read_fault bs old (head c.in_ok-header.header) c.read.new.records read.answer read.after) in
     record { answer = answer; law = checks_law bs old _ answer; records = c.check_closing.ensures.same ∙ read.after }
