@@ -55,6 +55,7 @@ fn fill(heap: &mut Heap<'_, Lined>, records: &[Record])
     ensures named { heap.new.slots.ghost_name ≡ heap.old.slots.ghost_name }
 {
     for (i, record) in records.iter().enumerate() {
+        // There is room for every record.
         let _ = heap.push(Lined {
             record: *record,
             index: i,
