@@ -1,4 +1,5 @@
 pub mod Order
+pub mod Pairs
 pub mod Sifting
 pub mod Sorted
 pub mod Held

@@ -1,23 +1,17 @@
 -- The place of the entry at the top is the first one.
-use Rattle.std.proofs.Common.{◌≡◌, ℕ, zero, suc, ◌+◌, ◌<◌, ◌≤◌, Bool, true, false, cond, ◌&&◌, ◌||◌, eqb, ltb, leb, List, [], ◌∷◌, Some, None, Option, sym, refl, ap, ◌∙◌, arith, rules}
+use Rattle.std.proofs.Common.{◌≡◌, ℕ, zero, suc, ◌+◌, ◌<◌, ◌≤◌, Bool, true, false, cond, ◌&&◌, ◌||◌, eqb, ltb, leb, List, [], ◌∷◌, Some, None, Option, sym, refl, ap, ◌∙◌, arith}
 use Rattle.std.specs.List.{slice_get}
 use Rattle.std.specs.Option.{option_map}
 use Rattle.std.proofs.lemmas.Bool.{eqb-true, ltb-true, ltb-false, leb-true, lt-ltb, le-ltb}
 use Rattle.queue.specs.First.{Due, earlier, scan, earliest}
 use Rattle.queue.specs.Places.{places}
 use Rattle.heap.specs.Order.{Least}
+use Rattle.heap.specs.Pairs.{pair_total, pair_chain}
 use Rattle.heap.proofs.Popping.{answer_least}
 use Rattle.heap_queue.specs.Entries.{deadline_at, deadlines_from, row, Sound}
-use Rattle.heap_queue.specs.Order.{sooner}
+use Rattle.heap_queue.specs.Order.{pair_of, sooner}
 use Rattle.heap_queue.specs.declared.timed.Timed.{Timed}
 use Rattle.heap_queue.specs.Tallies.{whether, tally_same, deadline_same}
-
--- the order is total
-total : (x y : Timed) → sooner x y ≡ false → sooner y x ≡ true
-total x y e = search rules
-
-chain : (x y z : Timed) → sooner x y ≡ true → sooner y z ≡ true → sooner x z ≡ true
-chain x y z p q = search rules
 
 abbrev due : ℕ → ℕ → Due
 due p d = record { place = p; deadline = d }
@@ -105,4 +99,4 @@ first_none = refl
 pub first_is : (es : List Timed) (r : Option Timed) → r ≡ slice_get es 0 → Sound es → option_map (λ e. e.place) r ≡ earliest (row es)
 first_is [] r e s = ap (option_map (λ (x : Timed). x.place)) e ∙ first_none
 first_is (x ∷ es) r e s =
-    ap (option_map (λ (y : Timed). y.place)) e ∙ first_top x es (answer_least sooner total chain (x ∷ es) (Some x) refl s.ordered) s
+    ap (option_map (λ (y : Timed). y.place)) e ∙ first_top x es (answer_least sooner (λ e f. pair_total (pair_of e) (pair_of f)) (λ e f g. pair_chain (pair_of e) (pair_of f) (pair_of g)) (x ∷ es) (Some x) refl s.ordered) s

@@ -10,6 +10,7 @@ mod calls;
 
 // The first `len` entries of the memory are a heap. The memory has an entry for every place,
 // and in the heap each place stands at most once, and none that there is not.
+// The memory is handed in and given back at its own length, so the count of the heap stands beside it.
 #[derive(Drop)]
 pub struct HeapQueue {
     memory: Vec<Timed>,

@@ -51,6 +51,7 @@ pub(crate) fn fill_place(slots: &mut [Timed], n: usize, entry: Timed) -> usize
 {
     let mut heap = Heap::resume(slots, n);
     take_out(&mut heap, entry.place);
+    // The others are of other places, one of each at most, so there is room.
     let _ = heap.push(entry);
     heap.len()
 }

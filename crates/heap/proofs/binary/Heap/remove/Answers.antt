@@ -16,7 +16,8 @@ returns g c =
     let some : i < h.len = search rules in
     let count = length-take-le h.len (memory h) h.within in
     let copied : option_copied c.get.result ≡ Some x = sym c.copied.ensures ∙ c.in_ok-x.was in
-    let read : get_or (held h) i x ≡ x = ap (λ l. get_or l i x) (sym c.entries.ensures) ∙ sym (c.get.ensures.lookup.4 (omega arith) x) ∙ ap (λ o. unwrap_or o x) copied in
+    let now' : get_or c.entries.result.now i x ≡ x = sym (c.get.ensures.lookup.4 (omega arith) x) ∙ ap (λ o. unwrap_or o x) copied in
+    let read : get_or (held h) i x ≡ x = ap (λ l. get_or l i x) (sym c.entries.ensures) ∙ now' in
     record {
       removed = record {
         which = sym (slice_get_read (held h) h.len i x (sym count) some (sym read));
