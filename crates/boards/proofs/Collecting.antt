@@ -1,5 +1,5 @@
 -- The steps of the loops that collect a board's list.
-use Rattle.std.proofs.Common.{◌≡◌, ℕ, ◌+◌, ◌<◌, ◌≤◌, eqb, List, [], ◌∷◌, ◌++◌, length, get_or, take, drop, set, Some, None, Option, sym, refl, ap, ◌∙◌, ⊎_elim, append_assoc, arith, length-append, take-append-drop, MatchOption}
+use Rattle.std.proofs.Common.{◌≡◌, ℕ, ◌+◌, ◌<◌, ◌≤◌, eqb, List, [], ◌∷◌, ◌++◌, length, get_or, take, drop, set, sym, refl, ap, ◌∙◌, ⊎_elim, append_assoc, arith, length-append, take-append-drop}
 use Rattle.std.proofs.lemmas.List.{at_drop_more, take_more_set, length-take-le}
 use Rattle.std.proofs.lemmas.Bool.{cond-true, cond-false, cases_Bool, eq-eqb, ne_eqb}
 use Rattle.duty.specs.declared.records.Record.{Record}
@@ -55,11 +55,3 @@ module _ (rs left block : List Record) (b k n : ℕ) (list : List Timing) (first
   block_too_long within long =
       let parts = length-append (on_board b (take k left)) (on_board b (drop k left)) in
       omega (arith, long, ap length inv, length-append (take n list) (on_board b left), length-take-le n list within, ap length (in_parts b k left), parts, ap (λ l. length (on_board b l)) first)
-
-pub rest_too_long : (rs left : List Record) (b n : ℕ) (list : List Timing) → take n list ++ on_board b left ≡ on_board b rs → n ≤ length list → length list < n + length (on_board b left) → length list < length (on_board b rs)
-rest_too_long rs left b n list inv within long =
-    omega (arith, long, ap length inv, length-append (take n list) (on_board b left), length-take-le n list within)
-
-pub cases_map : {A : Type 0} {P P' : Type 0} {Q Q' : A → Type 0} (o : Option A) → (P → P') → ((x : A) → Q x → Q' x) → MatchOption o P Q → MatchOption o P' Q'
-cases_map (Some x) none some h = some x h
-cases_map None none some h = none h

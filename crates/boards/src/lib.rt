@@ -7,9 +7,6 @@ ghost use Rattle.boards.specs.Lists.{on_board, board_passed};
 use duty::{Header, Record, Timing};
 use gauge::Gauge;
 
-// The most duties of a board.
-const MOST: usize = Header::MOST_DUTIES as usize;
-
 // How many records are looked at in one go: the compiler writes them out one after another, which
 // is faster than a turn of a loop for each.
 const BLOCK: usize = 16;
@@ -41,10 +38,7 @@ fn collect(records: &[Record], board: u8, list: &mut [Timing]) -> Option<usize>
     let mut n = 0;
     let mut left = records;
     while let Some((block, rest)) = left.split_first_chunk::<BLOCK>() {
-        match add(block, board, list, n) {
-            Some(more) => n = more,
-            None => return None,
-        }
+        n = add(block, board, list, n)?;
         left = rest;
     }
     add(left, board, list, n)
@@ -54,9 +48,10 @@ fn collect(records: &[Record], board: u8, list: &mut [Timing]) -> Option<usize>
 pub fn board_passes<G: Gauge>(gauge: &G, records: &[Record], board: u8, cycle: u32) -> bool
     ensures { result ≡ board_passed (G.passed gauge.now) records.now board cycle }
 {
-    let mut list = [Timing::NONE; MOST];
+    // An `ArrayVec` in place of the array and its count was tried: each list took longer.
+    let mut list = [Timing::NONE; Header::MOST_RECORDS];
     match collect(records, board, &mut list) {
-        Some(n) => gauge.passes(&list[0..n], cycle),
+        Some(n) => gauge.passes(&list[..n], cycle),
         None => false,
     }
 }
