@@ -12,7 +12,7 @@ use gauge::Gauge;
 fn is_on_some(record: &Record, boards: u8) -> bool
     ensures { result ≡ on_some boards record.now }
 {
-    1 <= record.board && record.board <= boards
+    (1..=boards).contains(&record.board)
 }
 
 // The first record that is on no board of the header.

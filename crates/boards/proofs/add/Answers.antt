@@ -1,4 +1,4 @@
-use Rattle.std.proofs.Common.{length, take, arith, length-append}
+use Rattle.std.proofs.Common.{take, arith, length-append}
 use Rattle.std.proofs.lemmas.List.{length-take-le}
 use Rattle.boards.specs.Lists.{on_board}
 use Rattle.boards.proofs.Collecting.{too_many}
