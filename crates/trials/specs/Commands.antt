@@ -1,5 +1,5 @@
 -- The one text of each command, and what it means that a text is read.
-use Rattle.std.specs.Prelude.{◌≡◌, ℕ, ◌^◌, ◌<◌, List, ◌++◌, Some, None, codes, decimal, Option, Result, ◌≢◌}
+use Rattle.std.specs.Prelude.{◌≡◌, ℕ, ◌^◌, ◌<◌, Bool, true, false, List, ◌++◌, Some, None, codes, decimal, Option, Result, ◌≢◌}
 use Rattle.std.specs.Result.{result_ok}
 use Rattle.columns.specs.Numerals.{widest}
 use Rattle.model.specs.declared.calls.Call.{Call}
@@ -28,6 +28,12 @@ abbrev pub command_text : Command → List ℕ
 command_text (load b) = codes "load " ++ decimal b
 command_text (make call) = call_text call
 command_text unload = codes "unload"
+
+-- the command is a call
+abbrev pub is_call : Command → Bool
+is_call (load b) = false
+is_call (make call) = true
+is_call unload = false
 
 abbrev pub ShortCall : Call → Type 0
 ShortCall (arrive p) = Short p

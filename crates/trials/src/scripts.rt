@@ -1,5 +1,7 @@
 // A trial's input: a plan's text, and then a command a line.
-ghost use Rattle.std.specs.Prelude.{◌≡◌, ℕ, ◌<◌, ◌≤◌, length, ◌≢◌, slice_index};
+ghost use Rattle.std.specs.Prelude.{◌≡◌, ◌≤◌, length};
+ghost use Rattle.std.specs.List.{prefix_len};
+ghost use Rattle.trials.specs.Commands.{is_call};
 
 use crate::commands::{Command, NoCommand};
 use columns::Form;
@@ -45,6 +47,7 @@ pub fn read_script(heap: Global, text: &[u8]) -> Result<Script, AllocError> {
 
 // How many calls come before the next command that is none.
 pub fn calls_in_front(commands: &[Command]) -> usize
+    ensures value { result ≡ prefix_len is_call commands.now }
     ensures within { result ≤ length commands.now }
 {
     for (i, command) in commands.iter().enumerate() {
