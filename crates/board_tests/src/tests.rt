@@ -1,7 +1,7 @@
 // Two boards with one duty each, under the density gauge at cycle 100.
 use board::run_plan;
 use duty::{Header, Letter, Name, Record, Timing};
-use fault::{Cause, Fault, Layer};
+use fault::{Cause, Fault};
 use gauge::Density;
 use model::{Answer, Call, Event};
 use queue::RowQueue;
@@ -28,41 +28,27 @@ const CALLS: [Call; 4] = [
 ];
 
 fn unanswered() -> [Event; 4] {
-    [
-        Event::of(CALLS[0]),
-        Event::of(CALLS[1]),
-        Event::of(CALLS[2]),
-        Event::of(CALLS[3]),
-    ]
+    CALLS.map(Event::of)
 }
 
 // What running the calls on a board of the plan answers, and the events after it; the queue that comes back is dropped.
 fn attempt(duties: u8, records: &[Record], number: u8) -> Option<(Result<(), Fault>, [Event; 4])> {
-    match Header::new(Letter::Density, 2, duties, 100) {
-        Some(header) => {
-            let mut events = unanswered();
-            let (_, answer) = run_plan(
-                header,
-                records,
-                Density,
-                number,
-                RowQueue::new(),
-                &mut events,
-            );
-            Some((answer, events))
-        }
-        None => None,
-    }
+    let header = Header::new(Letter::Density, 2, duties, 100)?;
+    let mut events = unanswered();
+    let (_, answer) = run_plan(
+        header,
+        records,
+        Density,
+        number,
+        RowQueue::new(),
+        &mut events,
+    );
+    Some((answer, events))
 }
 
 // A refusal, and the events as they were.
 fn refused(cause: Cause, line: usize, column: usize) -> Option<(Result<(), Fault>, [Event; 4])> {
-    let fault = Fault {
-        cause,
-        line,
-        column,
-        layer: Layer::Call,
-    };
+    let fault = Fault::of_call(cause).at(line, column);
     Some((Err(fault), unanswered()))
 }
 

@@ -1,25 +1,10 @@
 // The answers of the crates to a case.
 use super::cases::{GaugeCase, PlacingCase, Verdicts};
-use anyhow::anyhow;
-use duty::{Header, Letter, Name, Record, Timing};
-use fault::{Cause, Fault, Layer};
+use anyhow::Context;
+use duty::{Header, Letter, Record};
+use fault::{Cause, Fault};
 use gauge::{Density, Exact, Gauge, Slope};
 use placing::{Lined, place};
-
-const DUTIES: usize = Header::MOST_DUTIES as usize;
-
-const UNUSED: Lined = Lined {
-    record: Record {
-        name: Name { bytes: [b' '; 8] },
-        timing: Timing {
-            cost: 0,
-            deadline: 0,
-            spacing: 0,
-        },
-        board: 0,
-    },
-    index: 0,
-};
 
 // What the three gauges say to the list.
 pub fn ask_gauges(case: &GaugeCase) -> Verdicts {
@@ -31,8 +16,9 @@ pub fn ask_gauges(case: &GaugeCase) -> Verdicts {
     }
 }
 
+// Places by the letter's gauge. A letter is a gauge too, but here each gauge is tried by its own type.
 fn place_by(letter: Letter, header: &Header, records: &mut [Record]) -> Result<(), Fault> {
-    let mut scratch = [UNUSED; DUTIES];
+    let mut scratch = [Lined::UNUSED; Header::MOST_RECORDS];
     match letter {
         Letter::Density => place(&Density, header, records, &mut scratch),
         Letter::Slope => place(&Slope, header, records, &mut scratch),
@@ -44,12 +30,7 @@ fn place_by(letter: Letter, header: &Header, records: &mut [Record]) -> Result<(
 fn due_answer(stuck: Option<u32>) -> Result<(), Fault> {
     match stuck {
         None => Ok(()),
-        Some(index) => Err(Fault {
-            cause: Cause::NoBoardFits,
-            line: index as usize + 2,
-            column: 1,
-            layer: Layer::Call,
-        }),
+        Some(index) => Err(Fault::of_call(Cause::NoBoardFits).at(index as usize + 2, 1)),
     }
 }
 
@@ -61,9 +42,9 @@ pub fn agrees_on_placing(case: &PlacingCase) -> anyhow::Result<bool> {
         record.board = Record::MOST_BOARDS;
     }
     let duties = u8::try_from(records.len())?;
-    let Some(header) = Header::new(case.letter, case.boards, duties, case.cycle) else {
-        return Err(anyhow!("a table has 1 to 16 boards, at most 64 duties and a cycle in range"));
-    };
+    let header = Header::new(case.letter, case.boards, duties, case.cycle).context(
+        "a table has 1 to 16 boards, at most 64 duties and a cycle in range",
+    )?;
     let answer = place_by(case.letter, &header, records.as_mut_slice());
     Ok(answer == due_answer(case.stuck) && records.as_slice() == case.records.as_slice())
 }

@@ -3,6 +3,7 @@ use anyhow::{Context, anyhow};
 use duty::{Letter, Name, Record, Timing};
 use std::alloc::Global;
 use std::fmt;
+use std::str::FromStr;
 
 // What the three gauges say to a list.
 #[derive(Clone, Copy, PartialEq, Eq)]
@@ -62,67 +63,57 @@ fn read_verdict(mark: u8) -> anyhow::Result<bool> {
     }
 }
 
-fn read_verdicts(word: &str) -> anyhow::Result<Verdicts> {
-    let [density, slope, exact] = word.as_bytes() else {
-        return Err(anyhow!("three verdicts are due"));
-    };
-    Ok(Verdicts {
-        density: read_verdict(*density)?,
-        slope: read_verdict(*slope)?,
-        exact: read_verdict(*exact)?,
-    })
+impl FromStr for Verdicts {
+    type Err = anyhow::Error;
+
+    fn from_str(word: &str) -> anyhow::Result<Verdicts> {
+        let [density, slope, exact] = word.as_bytes() else {
+            return Err(anyhow!("three verdicts are due"));
+        };
+        Ok(Verdicts {
+            density: read_verdict(*density)?,
+            slope: read_verdict(*slope)?,
+            exact: read_verdict(*exact)?,
+        })
+    }
 }
 
 fn read_letter(word: &str) -> anyhow::Result<Letter> {
-    match word {
-        "D" => Ok(Letter::Density),
-        "S" => Ok(Letter::Slope),
-        "E" => Ok(Letter::Exact),
-        _ => Err(anyhow!("a gauge is D, S or E")),
-    }
+    let letter = match word.as_bytes() {
+        [byte] => Letter::try_from(*byte).ok(),
+        _ => None,
+    };
+    letter.context("a gauge is D, S or E")
 }
 
-fn read_numbers(heap: Global, text: &str) -> anyhow::Result<Vec<u32>> {
-    let mut numbers = Vec::new(heap);
-    for word in text.split(' ') {
-        numbers.push(word.parse::<u32>()?)?;
-    }
-    Ok(numbers)
+fn read_number(word: &str) -> anyhow::Result<u32> {
+    Ok(word.parse::<u32>()?)
 }
 
-fn read_timings(heap: Global, numbers: &[u32]) -> anyhow::Result<Vec<Timing>> {
-    let mut duties = Vec::new(heap);
-    for row in numbers.chunks(3) {
-        let [cost, deadline, spacing] = row else {
-            return Err(anyhow!("a list has three numbers a duty"));
-        };
-        duties.push(Timing {
-            cost: *cost,
-            deadline: *deadline,
-            spacing: *spacing,
-        })?;
-    }
-    Ok(duties)
+fn read_timing(row: &[u32]) -> anyhow::Result<Timing> {
+    let [cost, deadline, spacing] = *row else {
+        return Err(anyhow!("a list has three numbers a duty"));
+    };
+    Ok(Timing {
+        cost,
+        deadline,
+        spacing,
+    })
 }
 
-fn read_records(heap: Global, numbers: &[u32]) -> anyhow::Result<Vec<Record>> {
-    let mut records = Vec::new(heap);
-    for row in numbers.chunks(4) {
-        let [cost, deadline, spacing, board] = row else {
-            return Err(anyhow!("a placing has four numbers a duty"));
-        };
-        let timing = Timing {
-            cost: *cost,
-            deadline: *deadline,
-            spacing: *spacing,
-        };
-        records.push(Record {
-            name: NAME,
-            timing,
-            board: u8::try_from(*board)?,
-        })?;
-    }
-    Ok(records)
+fn read_record(row: &[u32]) -> anyhow::Result<Record> {
+    let [cost, deadline, spacing, board] = *row else {
+        return Err(anyhow!("a placing has four numbers a duty"));
+    };
+    Ok(Record {
+        name: NAME,
+        timing: Timing {
+            cost,
+            deadline,
+            spacing,
+        },
+        board: u8::try_from(board)?,
+    })
 }
 
 fn read_gauges(heap: Global, word: &str, numbers: &[u32]) -> anyhow::Result<GaugeCase> {
@@ -130,9 +121,26 @@ fn read_gauges(heap: Global, word: &str, numbers: &[u32]) -> anyhow::Result<Gaug
         return Err(anyhow!("a cycle is due"));
     };
     Ok(GaugeCase {
-        verdicts: read_verdicts(word)?,
+        verdicts: word.parse::<Verdicts>()?,
         cycle: *cycle,
-        duties: read_timings(heap, rows)?,
+        duties: rows.chunks(3).map(read_timing).try_collect(heap)?,
+    })
+}
+
+// A placing's case, in which every duty fits.
+fn read_placing(
+    heap: Global,
+    word: &str,
+    boards: u32,
+    cycle: u32,
+    rows: &[u32],
+) -> anyhow::Result<PlacingCase> {
+    Ok(PlacingCase {
+        letter: read_letter(word)?,
+        boards: u8::try_from(boards)?,
+        cycle,
+        stuck: None,
+        records: rows.chunks(4).map(read_record).try_collect(heap)?,
     })
 }
 
@@ -140,26 +148,16 @@ fn read_placed(heap: Global, word: &str, numbers: &[u32]) -> anyhow::Result<Plac
     let [boards, cycle, rows @ ..] = numbers else {
         return Err(anyhow!("boards and a cycle are due"));
     };
-    Ok(PlacingCase {
-        letter: read_letter(word)?,
-        boards: u8::try_from(*boards)?,
-        cycle: *cycle,
-        stuck: None,
-        records: read_records(heap, rows)?,
-    })
+    read_placing(heap, word, *boards, *cycle, rows)
 }
 
 fn read_stuck(heap: Global, word: &str, numbers: &[u32]) -> anyhow::Result<PlacingCase> {
     let [boards, cycle, index, rows @ ..] = numbers else {
         return Err(anyhow!("boards, a cycle and an index are due"));
     };
-    Ok(PlacingCase {
-        letter: read_letter(word)?,
-        boards: u8::try_from(*boards)?,
-        cycle: *cycle,
-        stuck: Some(*index),
-        records: read_records(heap, rows)?,
-    })
+    let mut case = read_placing(heap, word, *boards, *cycle, rows)?;
+    case.stuck = Some(*index);
+    Ok(case)
 }
 
 // Reads a case: its kind, a word of letters, and numbers, with one blank between two.
@@ -169,7 +167,7 @@ pub fn read_case(heap: Global, text: &str) -> anyhow::Result<Case> {
         return Ok(Case::Remark);
     }
     let (word, rest) = rest.split_once(' ').context("numbers are due")?;
-    let numbers = read_numbers(heap, rest)?;
+    let numbers: Vec<u32> = rest.split(' ').map(read_number).try_collect(heap)?;
     match kind {
         "gauge" => Ok(Case::Gauges(read_gauges(heap, word, numbers.as_slice())?)),
         "placed" => Ok(Case::Placing(read_placed(heap, word, numbers.as_slice())?)),

@@ -20,25 +20,22 @@ fn verdict(passes: bool) -> &'static str {
 
 // The slope gauge's sum at t without the rates: the steps alone.
 fn steps_at(duties: &[Timing], cycle: u32, t: u32) -> u64 {
-    let mut sum = 0u64;
-    for duty in duties {
-        if duty.deadline <= t {
-            sum = sum.saturating_add(u64::from(duty.cost).saturating_mul(u64::from(cycle)));
-        }
-    }
-    sum
+    duties
+        .iter()
+        .filter(|duty| duty.deadline <= t)
+        .map(|duty| u64::from(duty.cost).saturating_mul(u64::from(cycle)))
+        .fold(0u64, |sum, step| sum.saturating_add(step))
 }
 
 // The sum of the densities, each rounded down to millionths.
 fn densities_down(duties: &[Timing]) -> u64 {
-    let mut sum = 0u64;
-    for duty in duties {
-        let share = u64::from(duty.cost).saturating_mul(WHOLE);
-        if let Some(density) = share.checked_div(u64::from(duty.deadline)) {
-            sum = sum.saturating_add(density);
-        }
-    }
-    sum
+    duties
+        .iter()
+        .filter_map(|duty| {
+            let share = u64::from(duty.cost).saturating_mul(WHOLE);
+            share.checked_div(u64::from(duty.deadline))
+        })
+        .fold(0u64, |sum, density| sum.saturating_add(density))
 }
 
 // 2/5/10, 3/6/12 and 2/8/20 at 8, the sums times the cycle of 120.

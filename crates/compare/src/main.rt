@@ -13,18 +13,13 @@ use std::io::{BufRead, BufReader};
 use std::{fmt, io};
 
 // How many answers agree, and how many differ.
-#[derive(Clone, Copy)]
+#[derive(Clone, Copy, Default)]
 struct Tally {
     agree: u64,
     differ: u64,
 }
 
 impl Tally {
-    const NONE: Tally = Tally {
-        agree: 0,
-        differ: 0,
-    };
-
     fn count(&mut self, same: bool) {
         if same {
             self.agree = self.agree.saturating_add(1);
@@ -36,13 +31,12 @@ impl Tally {
 
 impl fmt::Display for Tally {
     fn fmt<W: fmt::Write>(&self, f: &mut fmt::Formatter<W>) -> fmt::Result {
-        let agree = self.agree;
-        let differ = self.differ;
+        let Tally { agree, differ } = *self;
         write!(f, "{agree} answers agree, {differ} differ")
     }
 }
 
-#[derive(Clone, Copy)]
+#[derive(Clone, Copy, Default)]
 struct Tallies {
     gauges: Tally,
     placings: Tally,
@@ -87,10 +81,7 @@ impl Tallies {
 }
 
 fn compare_all(rt: &HostRuntime) -> anyhow::Result<Tallies> {
-    let mut tallies = Tallies {
-        gauges: Tally::NONE,
-        placings: Tally::NONE,
-    };
+    let mut tallies = Tallies::default();
     for line in BufReader::new(rt.alloc(), rt.stdin())?.lines(rt.alloc()) {
         tallies.compare(rt, line?.as_str())?;
     }
@@ -98,9 +89,7 @@ fn compare_all(rt: &HostRuntime) -> anyhow::Result<Tallies> {
 }
 
 fn run(rt: &HostRuntime) -> anyhow::Result<()> {
-    let tallies = compare_all(rt)?;
-    let gauges = tallies.gauges;
-    let placings = tallies.placings;
+    let Tallies { gauges, placings } = compare_all(rt)?;
     println!(rt; "gauges: {gauges}")?;
     println!(rt; "placings: {placings}")?;
     print_figures(rt)?;

@@ -7,8 +7,6 @@ use placing::Lined;
 use planner::plan;
 use std::io::{Read, Write};
 
-const DUTIES: usize = Header::MOST_DUTIES as usize;
-
 // One byte more than the longest table is all that can decide.
 fn run(rt: &HostRuntime) -> anyhow::Result<()> {
     let heap = rt.alloc();
@@ -16,8 +14,8 @@ fn run(rt: &HostRuntime) -> anyhow::Result<()> {
     rt.stdin()
         .take(Form::Table.longest_text() as u64 + 1)
         .read_to_end(&mut text)?;
-    let mut records = [Record::BLANK; DUTIES];
-    let mut scratch = [Lined::UNUSED; DUTIES];
+    let mut records = [Record::BLANK; Header::MOST_RECORDS];
+    let mut scratch = [Lined::UNUSED; Header::MOST_RECORDS];
     let mut out = vec![in heap; 0u8; Form::Plan.longest_text()]?;
     match plan(
         text.as_slice(),

@@ -6,8 +6,6 @@ use duty::{Header, Record};
 use planner::check;
 use std::io::Read;
 
-const DUTIES: usize = Header::MOST_DUTIES as usize;
-
 // One byte more than the longest plan is all that can decide.
 fn run(rt: &HostRuntime) -> anyhow::Result<()> {
     let heap = rt.alloc();
@@ -15,7 +13,7 @@ fn run(rt: &HostRuntime) -> anyhow::Result<()> {
     rt.stdin()
         .take(Form::Plan.longest_text() as u64 + 1)
         .read_to_end(&mut text)?;
-    let mut records = [Record::BLANK; DUTIES];
+    let mut records = [Record::BLANK; Header::MOST_RECORDS];
     match check(text.as_slice(), &mut records) {
         Ok(()) => rt.println("OK")?,
         Err(fault) => rt.println(fault)?,

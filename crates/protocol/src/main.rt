@@ -3,7 +3,7 @@
 // Under must-not-build/ stand uses out of this order.
 #![tactic(auto)]
 
-use anyhow::anyhow;
+use anyhow::Context;
 use board::BareBoard;
 use duty::{Header, Letter, Name, Record, Timing};
 use fault::Fault;
@@ -23,10 +23,12 @@ struct Answers {
 
 impl fmt::Display for Answers {
     fn fmt<W: fmt::Write>(&self, f: &mut fmt::Formatter<W>) -> fmt::Result {
-        let deadline = self.deadline;
-        let units = self.units;
-        let first = self.first;
-        let second = self.second;
+        let Answers {
+            deadline,
+            units,
+            first,
+            second,
+        } = self;
         write!(
             f,
             "due at {deadline}, cost {units}; the ticks went to {first:?} and {second:?}"
@@ -67,9 +69,7 @@ fn use_board(header: Header, records: &mut [Record]) -> Result<Answers, Fault> {
 
 fn run(rt: &HostRuntime) -> anyhow::Result<()> {
     let mut records = [row(*b"GREAT   ", 1, 5, 10), row(*b"SWELL   ", 3, 6, 20)];
-    let Some(header) = Header::new(Letter::Exact, 1, 2, 20) else {
-        return Err(anyhow!("the header keeps its limits"));
-    };
+    let header = Header::new(Letter::Exact, 1, 2, 20).context("the header keeps its limits")?;
     match use_board(header, &mut records) {
         Ok(answers) => Ok(rt.println(answers)?),
         Err(fault) => Ok(rt.println(fault)?),

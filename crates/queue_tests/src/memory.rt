@@ -1,5 +1,5 @@
 // The memory of a heap queue: refused where it is short, and given back.
-use fault::{Cause, Fault, Layer};
+use fault::{Cause, Fault};
 use heap_queue::{HeapQueue, Timed};
 use queue::ReadyQueue;
 use std::alloc::Global;
@@ -11,19 +11,13 @@ pub fn made(memory: Vec<Timed>) -> Result<HeapQueue, Fail> {
 }
 
 pub fn of_size(heap: Global, size: usize) -> Result<Vec<Timed>, Fail> {
-    let memory = vec![in heap; Timed::UNUSED; size]?;
-    Ok(memory)
+    Ok(vec![in heap; Timed::UNUSED; size]?)
 }
 
 #[test]
 fn short_by_one(rt: HostRuntime) -> Result<(), Fail> {
     let memory = of_size(rt.alloc(), 63)?;
-    let fault = Fault {
-        cause: Cause::MemoryShort,
-        line: 0,
-        column: 0,
-        layer: Layer::Call,
-    };
+    let fault = Fault::of_call(Cause::MemoryShort);
     assert_eq!(rt; HeapQueue::check(&memory), Err(fault));
     assert_eq!(rt; fault.number(), 10);
     Ok(())

@@ -1,19 +1,13 @@
 // The same calls to both queues.
 use crate::memory::{made, of_size};
-use fault::{Cause, Fault, Layer};
+use fault::{Cause, Fault};
 use queue::{ReadyQueue, RowQueue};
 use std::process::Abort;
 use std::test::Fail;
 
-const NO_SUCH_PLACE: Fault = Fault {
-    cause: Cause::NoSuchPlace,
-    line: 0,
-    column: 0,
-    layer: Layer::Call,
-};
-
 // Equal deadlines, a deadline put anew, places dropped from the middle, and places that there are not.
 fn try_out<Q: ReadyQueue>(rt: &impl Abort, queue: &mut Q) -> Result<(), Fail> {
+    let no_such_place = Fault::of_call(Cause::NoSuchPlace);
     assert_eq!(rt; queue.first(), None);
     queue.put(9, 40)?;
     queue.put(63, 70)?;
@@ -21,8 +15,8 @@ fn try_out<Q: ReadyQueue>(rt: &impl Abort, queue: &mut Q) -> Result<(), Fail> {
     assert_eq!(rt; queue.first(), Some(5));
     queue.put(5, 80)?;
     assert_eq!(rt; queue.first(), Some(9));
-    assert_eq!(rt; queue.put(64, 1), Err(NO_SUCH_PLACE));
-    assert_eq!(rt; queue.drop(64), Err(NO_SUCH_PLACE));
+    assert_eq!(rt; queue.put(64, 1), Err(no_such_place));
+    assert_eq!(rt; queue.drop(64), Err(no_such_place));
     queue.drop(9)?;
     queue.drop(9)?;
     assert_eq!(rt; queue.first(), Some(63));

@@ -1,9 +1,11 @@
 // What a case hands in beside its text, and the calls that it makes.
 use super::changes::Change;
+use super::errors::NoCase;
 use super::outcomes::Outcome;
 use columns::Form;
 use duty::{Header, Record};
 use fault::Fault;
+use std::str::FromStr;
 
 // How many records the reader is handed, how many of them the writer, and how many bytes of output it
 // has; and what is changed in between.
@@ -16,44 +18,48 @@ pub struct Call {
     change: Option<Change>,
 }
 
-fn parse_form(word: &str) -> Option<Form> {
+// A text of this name; `Form` is another crate's, so it cannot be parsed by `FromStr` here.
+fn parse_form(word: &str) -> Result<Form, NoCase> {
     match word {
-        "table" => Some(Form::Table),
-        "plan" => Some(Form::Plan),
-        _ => None,
+        "table" => Ok(Form::Table),
+        "plan" => Ok(Form::Plan),
+        _ => Err(NoCase::Form),
     }
 }
 
-impl Call {
-    // Reads `table` or `plan`, and then settings.
-    pub fn parse(text: &str) -> Option<Call> {
+// Reads `table` or `plan`, and then settings.
+impl FromStr for Call {
+    type Err = NoCase;
+
+    fn from_str(text: &str) -> Result<Call, NoCase> {
         let mut words = text.split_whitespace();
-        let form = parse_form(words.next()?)?;
-        let most = Header::MOST_DUTIES as usize;
+        let form = parse_form(words.next().ok_or(NoCase::Form)?)?;
         let mut call = Call {
             form,
-            records: most,
-            rows: most,
+            records: Header::MOST_RECORDS,
+            rows: Header::MOST_RECORDS,
             room: form.longest_text(),
             change: None,
         };
         for word in words {
             call.set(word)?;
         }
-        Some(call)
+        Ok(call)
     }
+}
 
+impl Call {
     // Reads a setting, `NAME=NUMBER`.
-    fn set(&mut self, word: &str) -> Option<()> {
-        let (name, value) = word.split_once('=')?;
-        let value = value.parse::<u32>().ok()?;
+    fn set(&mut self, word: &str) -> Result<(), NoCase> {
+        let (name, value) = word.split_once('=').ok_or(NoCase::Form)?;
+        let value = value.parse::<u32>()?;
         match name {
             "records" => self.records = value as usize,
             "rows" => self.rows = value as usize,
             "room" => self.room = value as usize,
             _ => self.change = Some(Change::parse(name, value)?),
         }
-        Some(())
+        Ok(())
     }
 
     fn read(&self, text: &[u8], records: &mut [Record]) -> Result<Header, Fault> {

@@ -1,5 +1,7 @@
 // A record changed after it was read, so that the writer sees what no text holds.
+use super::errors::NoCase;
 use duty::Record;
+use std::str::FromStr;
 
 #[derive(Clone, Copy)]
 enum Part {
@@ -19,24 +21,28 @@ pub struct Change {
     value: u32,
 }
 
-fn parse_part(name: &str) -> Option<Part> {
-    match name {
-        "initial" => Some(Part::Initial),
-        "cost" => Some(Part::Cost),
-        "deadline" => Some(Part::Deadline),
-        "spacing" => Some(Part::Spacing),
-        "board" => Some(Part::Board),
-        _ => None,
+impl FromStr for Part {
+    type Err = NoCase;
+
+    fn from_str(name: &str) -> Result<Part, NoCase> {
+        match name {
+            "initial" => Ok(Part::Initial),
+            "cost" => Ok(Part::Cost),
+            "deadline" => Ok(Part::Deadline),
+            "spacing" => Ok(Part::Spacing),
+            "board" => Ok(Part::Board),
+            _ => Err(NoCase::Form),
+        }
     }
 }
 
 impl Change {
     // Reads `LINE.PART`; the first record is that of line 2.
-    pub fn parse(name: &str, value: u32) -> Option<Change> {
-        let (line, part) = name.split_once('.')?;
-        Some(Change {
-            index: line.parse::<usize>().ok()?.checked_sub(2)?,
-            part: parse_part(part)?,
+    pub fn parse(name: &str, value: u32) -> Result<Change, NoCase> {
+        let (line, part) = name.split_once('.').ok_or(NoCase::Form)?;
+        Ok(Change {
+            index: line.parse::<usize>()?.checked_sub(2).ok_or(NoCase::Form)?,
+            part: part.parse::<Part>()?,
             value,
         })
     }

@@ -1,56 +1,56 @@
 // Texts as the table writes them: on one line, with escapes.
-use std::alloc::Global;
+use super::errors::NoCase;
+use std::alloc::{AllocError, Global};
 
-// The value of a digit.
-fn digit(byte: u8) -> Option<u8> {
+// The value of a digit. (`char::to_digit` takes small letters too.)
+fn digit(byte: u8) -> Result<u8, NoCase> {
     match byte {
-        b'0'..=b'9' => Some(byte - b'0'),
-        b'A'..=b'F' => Some(byte - b'A' + 10),
-        _ => None,
+        b'0'..=b'9' => Ok(byte - b'0'),
+        b'A'..=b'F' => Ok(byte - b'A' + 10),
+        _ => Err(NoCase::Form),
     }
 }
 
 // The number that two digits write in this base.
-fn two_digits(high: u8, low: u8, base: u8) -> Option<u8> {
-    base.checked_mul(digit(high)?)?.checked_add(digit(low)?)
+fn two_digits(high: u8, low: u8, base: u8) -> Result<u8, NoCase> {
+    let (high, low) = (digit(high)?, digit(low)?);
+    base.checked_mul(high)
+        .and_then(|high| high.checked_add(low))
+        .ok_or(NoCase::Form)
 }
 
 // The byte that a mark after a backslash stands for.
-fn control(mark: u8) -> Option<u8> {
+fn control(mark: u8) -> Result<u8, NoCase> {
     match mark {
-        b'n' => Some(b'\n'),
-        b'r' => Some(b'\r'),
-        b't' => Some(b'\t'),
-        b'0' => Some(0),
-        _ => None,
+        b'n' => Ok(b'\n'),
+        b'r' => Ok(b'\r'),
+        b't' => Ok(b'\t'),
+        b'0' => Ok(0),
+        _ => Err(NoCase::Form),
     }
 }
 
-// The bytes after the last end byte that has bytes after it.
+// The last line, with its end byte if it has one.
 fn last_line(text: &[u8]) -> &[u8] {
-    let mut first = 0;
-    for (i, byte) in text.iter().enumerate() {
-        if *byte == b'\n' && i + 1 < text.len() {
-            first = i + 1;
-        }
-    }
-    &text[first..]
+    text.split_inclusive(|byte| *byte == b'\n')
+        .last()
+        .unwrap_or(&[])
 }
 
 // Repeats the last line, so that it stands there `times` times.
-fn repeat_line(heap: Global, text: &mut Vec<u8>, times: u8) -> Option<()> {
-    let line = last_line(text.as_slice()).to_vec(heap).ok()?;
+fn repeat_line(heap: Global, text: &mut Vec<u8>, times: u8) -> Result<(), AllocError> {
+    let line = last_line(text.as_slice()).to_vec(heap)?;
     for _ in 1..times {
-        text.extend_from_slice(line.as_slice()).ok()?;
+        text.extend_from_slice(line.as_slice())?;
     }
-    Some(())
+    Ok(())
 }
 
 // Puts what stands after a backslash: an escape, and then plain bytes.
-fn put_escape(heap: Global, text: &mut Vec<u8>, piece: &[u8]) -> Option<()> {
+fn put_escape(heap: Global, text: &mut Vec<u8>, piece: &[u8]) -> Result<(), NoCase> {
     let plain = match piece {
         [b'x', high, low, plain @ ..] => {
-            text.push(two_digits(*high, *low, 16)?).ok()?;
+            text.push(two_digits(*high, *low, 16)?)?;
             plain
         }
         [b'*', tens, units, plain @ ..] => {
@@ -58,20 +58,20 @@ fn put_escape(heap: Global, text: &mut Vec<u8>, piece: &[u8]) -> Option<()> {
             plain
         }
         [mark, plain @ ..] => {
-            text.push(control(*mark)?).ok()?;
+            text.push(control(*mark)?)?;
             plain
         }
-        [] => return None,
+        [] => return Err(NoCase::Form),
     };
-    text.extend_from_slice(plain).ok()
+    Ok(text.extend_from_slice(plain)?)
 }
 
 // The bytes that an escaped text stands for.
-pub fn unescaped(heap: Global, escaped: &str) -> Option<Vec<u8>> {
+pub fn unescaped(heap: Global, escaped: &str) -> Result<Vec<u8>, NoCase> {
     let mut pieces = escaped.split('\\');
-    let mut text = pieces.next()?.as_bytes().to_vec(heap).ok()?;
+    let mut text = pieces.next().ok_or(NoCase::Form)?.as_bytes().to_vec(heap)?;
     for piece in pieces {
         put_escape(heap, &mut text, piece.as_bytes())?;
     }
-    Some(text)
+    Ok(text)
 }

@@ -5,6 +5,7 @@
 mod calls;
 mod cases;
 mod changes;
+mod errors;
 mod escapes;
 mod outcomes;
 mod tallies;
@@ -16,9 +17,12 @@ use tallies::Tally;
 
 // Runs the case on the line, and says whether it comes out as expected.
 fn run_case(rt: &HostRuntime, place: u64, line: &str) -> io::Result<bool> {
-    let Some(case) = Case::parse(rt.alloc(), line) else {
-        println!(rt; "line {place}: no case")?;
-        return Ok(false);
+    let case = match Case::parse(rt.alloc(), line) {
+        Ok(case) => case,
+        Err(error) => {
+            println!(rt; "line {place}: {error}")?;
+            return Ok(false);
+        }
     };
     let expected = case.expected;
     let outcome = case.run(rt.alloc())?;
@@ -30,10 +34,10 @@ fn run_case(rt: &HostRuntime, place: u64, line: &str) -> io::Result<bool> {
 }
 
 fn main(rt: HostRuntime) -> io::Result<()> {
-    let mut tally = Tally::new();
-    for line in BufReader::new(rt.alloc(), rt.stdin())?.lines(rt.alloc()) {
+    let mut tally = Tally::default();
+    let lines = BufReader::new(rt.alloc(), rt.stdin())?.lines(rt.alloc());
+    for (place, line) in (1u64..).zip(lines) {
         let line = line?;
-        let place = tally.next_line();
         if !line.is_empty() && !line.starts_with('#') {
             tally.count(run_case(&rt, place, line.as_str())?);
         }

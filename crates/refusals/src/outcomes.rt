@@ -1,6 +1,8 @@
 // What comes of a case.
+use super::errors::NoCase;
 use fault::{Fault, Layer};
 use std::fmt;
+use std::str::FromStr;
 
 #[derive(Clone, Copy, PartialEq)]
 pub enum Outcome {
@@ -20,6 +22,7 @@ pub struct Refusal {
     layer: Layer,
 }
 
+// A layer by its name; `Layer` is another crate's, so it can be neither shown by `Display` nor parsed by `FromStr` here.
 fn layer_word(layer: Layer) -> &'static str {
     match layer {
         Layer::Field => "field",
@@ -29,38 +32,42 @@ fn layer_word(layer: Layer) -> &'static str {
     }
 }
 
-fn parse_layer(word: &str) -> Option<Layer> {
+fn parse_layer(word: &str) -> Result<Layer, NoCase> {
     match word {
-        "field" => Some(Layer::Field),
-        "line" => Some(Layer::Line),
-        "table" => Some(Layer::Table),
-        "call" => Some(Layer::Call),
-        _ => None,
+        "field" => Ok(Layer::Field),
+        "line" => Ok(Layer::Line),
+        "table" => Ok(Layer::Table),
+        "call" => Ok(Layer::Call),
+        _ => Err(NoCase::Form),
     }
 }
 
 // A number, and what stands after the blank behind it.
-fn cut_number(text: &str) -> Option<(usize, &str)> {
-    let (number, rest) = text.split_once(' ')?;
-    Some((number.parse::<usize>().ok()?, rest))
+fn cut_number(text: &str) -> Result<(usize, &str), NoCase> {
+    let (number, rest) = text.split_once(' ').ok_or(NoCase::Form)?;
+    Ok((number.parse::<usize>()?, rest))
 }
 
-impl Refusal {
-    pub fn of(fault: &Fault) -> Refusal {
+impl From<Fault> for Refusal {
+    fn from(fault: Fault) -> Refusal {
         Refusal {
-            number: fault.number() as usize,
+            number: usize::from(fault.number()),
             line: fault.line,
             column: fault.column,
             layer: fault.layer,
         }
     }
+}
 
-    // Reads `NUMBER LINE COLUMN LAYER`.
-    fn parse(text: &str) -> Option<Refusal> {
+// Reads `NUMBER LINE COLUMN LAYER`.
+impl FromStr for Refusal {
+    type Err = NoCase;
+
+    fn from_str(text: &str) -> Result<Refusal, NoCase> {
         let (number, place) = cut_number(text)?;
         let (line, place) = cut_number(place)?;
         let (column, layer) = cut_number(place)?;
-        Some(Refusal {
+        Ok(Refusal {
             number,
             line,
             column,
@@ -69,12 +76,26 @@ impl Refusal {
     }
 }
 
-impl Outcome {
-    // Reads `ok DUTIES`, or a refusal.
-    pub fn parse(text: &str) -> Option<Outcome> {
+impl fmt::Display for Refusal {
+    fn fmt<W: fmt::Write>(&self, f: &mut fmt::Formatter<W>) -> fmt::Result {
+        let Refusal {
+            number,
+            line,
+            column,
+            layer,
+        } = *self;
+        write!(f, "{number} {line} {column} {}", layer_word(layer))
+    }
+}
+
+// Reads `ok DUTIES`, or a refusal.
+impl FromStr for Outcome {
+    type Err = NoCase;
+
+    fn from_str(text: &str) -> Result<Outcome, NoCase> {
         match text.strip_prefix("ok ") {
-            Some(duties) => Some(Outcome::Same(duties.parse::<usize>().ok()?)),
-            None => Some(Outcome::Refused(Refusal::parse(text)?)),
+            Some(duties) => Ok(Outcome::Same(duties.parse::<usize>()?)),
+            None => Ok(Outcome::Refused(text.parse::<Refusal>()?)),
         }
     }
 }
@@ -84,13 +105,7 @@ impl fmt::Display for Outcome {
         match self {
             Outcome::Same(duties) => write!(f, "ok {duties}"),
             Outcome::Other => write!(f, "another text"),
-            Outcome::Refused(refusal) => {
-                let number = refusal.number;
-                let line = refusal.line;
-                let column = refusal.column;
-                let layer = layer_word(refusal.layer);
-                write!(f, "{number} {line} {column} {layer}")
-            }
+            Outcome::Refused(refusal) => write!(f, "{refusal}"),
         }
     }
 }

@@ -3,7 +3,7 @@
 
 ghost use Rattle.std.specs.Prelude.{◌≤◌, length, IfOk};
 
-use anyhow::anyhow;
+use anyhow::Context;
 use columns::Form;
 use duty::{Header, Record};
 use fault::Fault;
@@ -12,13 +12,11 @@ use planner::plan;
 use std::env;
 use std::io::{Read, Write};
 
-const DUTIES: usize = Header::MOST_DUTIES as usize;
-
 fn plan_once(text: &[u8], out: &mut [u8]) -> Result<usize, Fault>
     ensures { IfOk result (λ n. n ≤ length out.old) }
 {
-    let mut records = [Record::BLANK; DUTIES];
-    let mut scratch = [Lined::UNUSED; DUTIES];
+    let mut records = [Record::BLANK; Header::MOST_RECORDS];
+    let mut scratch = [Lined::UNUSED; Header::MOST_RECORDS];
     plan(text, &mut records, &mut scratch, out)
 }
 
@@ -29,12 +27,8 @@ fn plan_over_and_over(text: &[u8], out: &mut [u8], times: u32) {
 }
 
 fn repeats(rt: &HostRuntime) -> anyhow::Result<u32> {
-    let mut words = env::args(rt)?;
-    let _ = words.next();
-    match words.next() {
-        Some(word) => Ok(word.as_str().parse::<u32>()?),
-        None => Err(anyhow!("usage: replan N")),
-    }
+    let word = env::args(rt)?.nth(1).context("usage: replan N")?;
+    Ok(word.as_str().parse::<u32>()?)
 }
 
 fn run(rt: &HostRuntime) -> anyhow::Result<()> {

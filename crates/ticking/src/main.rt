@@ -2,7 +2,7 @@
 // one names (row or heap), and prints a sum over the places that got them.
 #![tactic(auto)]
 
-use anyhow::anyhow;
+use anyhow::{Context, anyhow, ensure};
 use board::{BareBoard, RunningBoard};
 use duty::{Header, Letter, Name, Record, Timing};
 use heap_queue::{HeapQueue, Timed};
@@ -13,27 +13,17 @@ use std::env;
 // Cost 2 in every 128 ticks, 64 times over, fills every tick. The deadlines go from 65 to 128.
 const SPACING: u32 = 128;
 
-fn duty_at(place: usize) -> Record {
-    let mut record = Record {
+fn duty(deadline: u32) -> Record {
+    Record {
         name: Name {
             bytes: *b"STOP-8  ",
         },
         timing: Timing {
             cost: 2,
-            deadline: SPACING,
+            deadline,
             spacing: SPACING,
         },
         board: 1,
-    };
-    if place < PLACES {
-        record.timing.deadline = 65 + place as u32;
-    }
-    record
-}
-
-fn fill(records: &mut [Record]) {
-    for (place, record) in records.iter_mut().enumerate() {
-        *record = duty_at(place);
     }
 }
 
@@ -66,9 +56,7 @@ fn run_named(
         "row" => rt.println(run_on(plan, RowQueue::new(), count))?,
         "heap" => {
             let memory = vec![in rt.alloc(); Timed::UNUSED; PLACES]?;
-            if HeapQueue::check(&memory).is_err() {
-                return Err(anyhow!("no memory for the queue"));
-            }
+            ensure!(HeapQueue::check(&memory).is_ok(), "no memory for the queue");
             rt.println(run_on(plan, HeapQueue::new(memory), count))?
         }
         _ => return Err(anyhow!("usage: ticking row|heap N")),
@@ -77,17 +65,16 @@ fn run_named(
 }
 
 fn run(rt: &HostRuntime) -> anyhow::Result<()> {
-    let mut words = env::args(rt)?;
-    let _ = words.next();
+    let mut words = env::args(rt)?.skip(1);
     let (Some(queue), Some(count)) = (words.next(), words.next()) else {
         return Err(anyhow!("usage: ticking row|heap N"));
     };
     let count = count.as_str().parse::<u64>()?;
-    let mut records = [duty_at(0); PLACES];
-    fill(&mut records);
-    let Some(header) = Header::new(Letter::Exact, 1, 64, SPACING) else {
-        return Err(anyhow!("no header"));
-    };
+    let mut records = [duty(SPACING); PLACES];
+    for (record, deadline) in records.iter_mut().zip(65..=SPACING) {
+        record.timing.deadline = deadline;
+    }
+    let header = Header::new(Letter::Exact, 1, 64, SPACING).context("no header")?;
     let plan = OpenPlan::new(header, &mut records);
     if let Err(fault) = plan.check(&Letter::Exact) {
         rt.println(fault.number())?;

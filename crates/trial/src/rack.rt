@@ -4,26 +4,24 @@ use fault::Fault;
 use plans::OpenPlan;
 use reader::read_plan;
 
-const DUTIES: usize = Header::MOST_DUTIES as usize;
-
-// A plan that can be closed under its header's gauge.
+// A plan that can be closed under its header's gauge: the header, and the records of its duties.
 #[derive(Clone, Copy)]
-pub struct Rack {
+pub struct Rack<'a> {
     pub header: Header,
-    pub records: [Record; DUTIES],
+    pub records: &'a [Record],
 }
 
-impl Rack {
-    // Reads the plan's text, or says why it is none that can be closed.
-    pub fn read(text: &[u8]) -> Result<Rack, Fault> {
-        let mut records = [Record::BLANK; DUTIES];
-        let header = read_plan(text, &mut records)?;
-        OpenPlan::new(header, &mut records).check(&header.letter())?;
-        Ok(Rack { header, records })
-    }
-
-    // The records of its duties.
-    pub fn rows(&self) -> &[Record] {
-        &self.records[0..self.header.duties() as usize]
+impl<'a> Rack<'a> {
+    // Reads the plan's text into the records, or says why it is none that can be closed.
+    pub fn read(
+        text: &[u8],
+        records: &'a mut [Record; Header::MOST_RECORDS],
+    ) -> Result<Rack<'a>, Fault> {
+        let header = read_plan(text, records)?;
+        OpenPlan::new(header, records).check(&header.letter())?;
+        Ok(Rack {
+            header,
+            records: &records[..header.duties() as usize],
+        })
     }
 }

@@ -1,7 +1,8 @@
 // From the input to the runs.
-use crate::options::read_options;
+use crate::options::{Queue, read_options};
 use crate::play::Trial;
 use crate::rack::Rack;
+use duty::{Header, Record};
 use heap_queue::{HeapQueue, Timed};
 use queue::{PLACES, RowQueue};
 use std::io::Read;
@@ -29,19 +30,18 @@ pub fn run(rt: &HostRuntime) -> anyhow::Result<()> {
     let options = read_options(rt)?;
     let mut text = Vec::new(rt.alloc());
     rt.stdin().read_to_end(&mut text)?;
-    let end = plan_end(text.as_slice());
-    match Rack::read(&text[0..end]) {
+    let (plan, calls) = text.as_slice().split_at(plan_end(text.as_slice()));
+    let mut records = [Record::BLANK; Header::MOST_RECORDS];
+    match Rack::read(plan, &mut records) {
         Ok(rack) => {
-            let script = read_script(rt.alloc(), &text[end..])?;
             let trial = Trial {
                 rack,
-                script,
+                script: read_script(rt.alloc(), calls)?,
                 chart: options.chart,
             };
-            if options.heap {
-                play_with_heap(rt, &trial)
-            } else {
-                play_with_row(rt, &trial)
+            match options.queue {
+                Queue::Row => play_with_row(rt, &trial),
+                Queue::Heap => play_with_heap(rt, &trial),
             }
         }
         Err(fault) => Ok(rt.println(fault)?),

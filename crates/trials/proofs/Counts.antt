@@ -1,15 +1,29 @@
 -- Counting the duties of a board and the ticks of a run.
-use Rattle.std.proofs.Common.{◌≡◌, ℕ, suc, ◌+◌, ◌<◌, Bool, true, false, cond, List, [], ◌∷◌, ◌++◌, length, get_or, take, drop, sym, ap, ◌∙◌, arith}
-use Rattle.std.proofs.lemmas.List.{at_drop_more, take_more}
-use Rattle.std.proofs.lemmas.Bool.{cond-true, cond-false, eq-eqb}
+use Rattle.std.proofs.Common.{◌≡◌, ℕ, ◌+◌, ◌<◌, Bool, true, false, cond, ◌&&◌, ◌==◌, List, [], ◌∷◌, ◌++◌, length, get_or, take, count_by, sym, ap, ◌∙◌, refl, arith}
+use Rattle.std.proofs.lemmas.List.{take_more}
+use Rattle.std.proofs.lemmas.List.Recursion.{is_count_by}
+use Rattle.std.proofs.lemmas.Bool.{cond-true, cond-false}
 use Rattle.duty.specs.declared.records.Record.{Record}
+use Rattle.duty.specs.declared.timings.Timing.{Timing}
 use Rattle.boards.specs.Lists.{on_board}
 use Rattle.model.specs.declared.calls.Event.{Event}
-use Rattle.model.specs.Events.{clock, ticks_in}
+use Rattle.model.specs.Events.{clock, ticks_in, is_tick, accepted}
 
--- a record of the board counts once
-pub one_more : (rs : List Record) (b i : ℕ) (d : Record) → i < length rs → (get_or rs i d).board ≡ b → length (on_board b (drop i rs)) ≡ suc (length (on_board b (drop (i + 1) rs)))
-one_more rs b i d within here = ap length (at_drop_more (on_board b) rs i d within ∙ cond-true _ _ _ (eq-eqb _ _ here))
+-- the duties of a board are its records, counted
+one_more : (here : Bool) (t : Timing) (ts : List Timing) → length (cond here (t ∷ ts) ts) ≡ cond here (1 + length ts) (length ts)
+one_more true t ts = omega arith
+one_more false t ts = refl
+
+pub on_board_counts : (b : ℕ) (rs : List Record) → length (on_board b rs) ≡ count_by (λ r. r.board == b) rs
+on_board_counts b rs = is_count_by (λ (xs : List Record). length (on_board b xs)) (λ r. r.board == b) refl (λ r xs. one_more (r.board == b) r.timing (on_board b xs)) rs
+
+-- the clock is the events that move it, counted
+one_later : (moves : Bool) (n : ℕ) → cond moves 1 0 + n ≡ cond moves (1 + n) n
+one_later true n = refl
+one_later false n = omega arith
+
+pub clock_counts : (es : List Event) → clock es ≡ count_by (λ e. is_tick e.call && accepted e.answer) es
+clock_counts es = is_count_by clock (λ e. is_tick e.call && accepted e.answer) refl (λ e xs. one_later (is_tick e.call && accepted e.answer) (clock xs)) es
 
 -- one event more
 clock_push : (es : List Event) (e : Event) → clock (es ++ e ∷ []) ≡ clock es + ticks_in e
@@ -20,12 +34,12 @@ pub clock_more : (es : List Event) (i : ℕ) (d : Event) → i < length es → c
 clock_more es i d within = ap clock (take_more es i d within) ∙ clock_push (take i es) (get_or es i d)
 
 -- so the clock goes on by one at a tick, and stays at any other event
-pub at_tick : (es : List Event) (i n : ℕ) (d : Event) (t : Bool) → i < length es → n ≡ clock (take i es) → cond t 1 0 ≡ ticks_in (get_or es i d) → t ≡ true → n + 1 ≡ clock (take (i + 1) es)
+pub at_tick : (es : List Event) (i n : ℕ) (d : Event) (t : Bool) → i < length es → n ≡ clock (take i es) → t ≡ (is_tick (get_or es i d).call && accepted (get_or es i d).answer) → t ≡ true → n + 1 ≡ clock (take (i + 1) es)
 at_tick es i n d t within so_far here is =
-    let one : ◌≡◌ {A = ℕ} 1 (cond t 1 0) = sym (cond-true t 1 0 is) in
+    let one : ticks_in (get_or es i d) ≡ 1 = cond-true (is_tick (get_or es i d).call && accepted (get_or es i d).answer) 1 0 (sym here ∙ is) in
     omega (arith, clock_more es i d within)
 
-pub at_other : (es : List Event) (i n : ℕ) (d : Event) (t : Bool) → i < length es → n ≡ clock (take i es) → cond t 1 0 ≡ ticks_in (get_or es i d) → t ≡ false → n ≡ clock (take (i + 1) es)
+pub at_other : (es : List Event) (i n : ℕ) (d : Event) (t : Bool) → i < length es → n ≡ clock (take i es) → t ≡ (is_tick (get_or es i d).call && accepted (get_or es i d).answer) → t ≡ false → n ≡ clock (take (i + 1) es)
 at_other es i n d t within so_far here isnt =
-    let none : ◌≡◌ {A = ℕ} 0 (cond t 1 0) = sym (cond-false t 1 0 isnt) in
+    let none : ticks_in (get_or es i d) ≡ 0 = cond-false (is_tick (get_or es i d).call && accepted (get_or es i d).answer) 1 0 (sym here ∙ isnt) in
     omega (arith, clock_more es i d within)

@@ -1,5 +1,5 @@
 -- A number in a line: its digits, with nothing before or after them.
-use Rattle.std.proofs.Common.{◌≡◌, ℕ, zero, suc, ◌-◌, ◌≤◌, leb, List, [], ◌∷◌, ◌++◌, length, get_or, replicate, Some, None, decimal, Option, sym, refl, ap, ◌∙◌, subst, ⊎_elim, arith}
+use Rattle.std.proofs.Common.{◌≡◌, ℕ, zero, suc, ◌-◌, ◌≤◌, leb, Bool, true, false, List, [], ◌∷◌, ◌++◌, length, get_or, replicate, Some, None, decimal, Option, sym, refl, ap, ◌∙◌, subst, ⊎_elim, arith}
 use Rattle.std.proofs.lemmas.Fmt.{decimal_digit, first_decimal, length-decimal-le}
 use Rattle.std.proofs.lemmas.List.Prefix.{front_rest}
 use Rattle.std.proofs.lemmas.Bool.{cases_Bool, cases_eq, cond-true, cond-false, leb-true, le-leb}
@@ -56,7 +56,10 @@ number_behind word line digits None e reads = λ n s t.
     reads n s (sym (front_rest line word (decimal n) (sym t)) ∙ front_rest line word digits e)
 number_behind word line digits (Some n) e reads = (reads.0, ap (λ (ds : List ℕ). word ++ ds) reads.1 ∙ sym e)
 
--- no blank stands where nothing does
-pub nothing_first : (bs : List ℕ) → length bs ≤ 0 → get_or bs 0 0 ≡ 32 → ⊥
-nothing_first [] none e = omega arith
-nothing_first (b ∷ bs) none e = omega arith
+-- where the bytes do not start with a blank, none stands first
+pub no_blank_first : (bs : List ℕ) (starts : Bool) → ((rest : List ℕ) → bs ≡ 32 ∷ rest → starts ≡ true) → starts ≡ false → get_or bs 0 0 ≡ 32 → ⊥
+no_blank_first [] starts told isnt e = omega arith
+no_blank_first (b ∷ bs) starts told isnt e =
+    let clash : true ≡ false = sym (told bs (ap (λ (x : ℕ). x ∷ bs) e)) ∙ isnt in
+    let z : ◌≡◌ {A = ℕ} 0 1 = cc in
+    omega arith

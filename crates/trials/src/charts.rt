@@ -9,9 +9,6 @@ use duty::{Header, Record};
 use model::Event;
 use std::fmt;
 
-// The most duties of a board.
-const MOST: usize = Header::MOST_DUTIES as usize;
-
 // How many ticks stand side by side.
 const FOLD: usize = 30;
 
@@ -22,26 +19,17 @@ const STEP: usize = 5;
 pub fn count_on(records: &[Record], board: u8) -> usize
     ensures { result ≡ length (on_board board records.now) }
 {
-    let mut count = 0;
-    for record in records {
-        if record.board == board {
-            count += 1;
-        }
-    }
-    count
+    records
+        .iter()
+        .filter(|record| record.board == board)
+        .count()
 }
 
 // What the clock reads after the events.
 fn clock_after(events: &[Event]) -> usize
     ensures { result ≡ clock events.now }
 {
-    let mut ticks = 0;
-    for event in events {
-        if is_tick(event) {
-            ticks += 1;
-        }
-    }
-    ticks
+    events.iter().filter(|event| is_tick(event)).count()
 }
 
 // How many events there are up to the last tick of a fold.
@@ -62,18 +50,12 @@ fn fold_length(events: &[Event]) -> usize
     events.len()
 }
 
-// Starts a row for each duty of the board, and answers how many there are.
-fn start_rows(records: &[Record], board: u8, rows: &mut [Row]) -> usize
-    ensures { result ≤ length rows.old }
-{
-    let mut n = 0;
-    for record in records {
-        if record.board == board && n < rows.len() {
-            rows[n] = Row::new(record.name);
-            n += 1;
-        }
+// Starts a row each for the first duties of the board.
+fn start_rows(records: &[Record], board: u8, rows: &mut [Row]) {
+    let duties = records.iter().filter(|record| record.board == board);
+    for (row, duty) in rows.iter_mut().zip(duties) {
+        *row = Row::new(duty.name);
     }
-    n
 }
 
 // Writes a row each for the events from one reading of the clock on; at the end of the run, its last reading too.
@@ -84,10 +66,10 @@ fn write_rows<W: fmt::Write>(
     end: Option<u64>,
     f: &mut fmt::Formatter<W>,
 ) -> fmt::Result {
-    for place in 0..rows.len() {
-        rows[place].write(place, events, clock, f)?;
+    for (place, row) in rows.iter_mut().enumerate() {
+        row.write(place, events, clock, f)?;
         if let Some(last) = end {
-            rows[place].close(last, f)?;
+            row.close(last, f)?;
         }
         writeln!(f)?;
     }
@@ -97,13 +79,11 @@ fn write_rows<W: fmt::Write>(
 // Writes the clock below its ticks, from one reading to another.
 fn write_clock<W: fmt::Write>(from: usize, to: usize, f: &mut fmt::Formatter<W>) -> fmt::Result {
     write!(f, "   clock     ")?;
-    let steps = to.saturating_sub(from) / STEP;
-    let mut reading = from;
-    for _ in 0..steps {
+    let last = to - to.saturating_sub(from) % STEP;
+    for reading in (from..last).step_by(STEP) {
         write!(f, "{reading:<10}")?;
-        reading = reading.saturating_add(STEP);
     }
-    writeln!(f, "{reading}")
+    writeln!(f, "{last}")
 }
 
 // Writes the rows of the whole run, whose clock ends at `ticks`, in folds with the clock below each.
@@ -113,17 +93,16 @@ fn write_folds<W: fmt::Write>(
     ticks: usize,
     f: &mut fmt::Formatter<W>,
 ) -> fmt::Result {
-    let mut at = 0;
-    let mut clock = 0usize;
-    for _ in 0..ticks.saturating_sub(1) / FOLD {
-        let next = at + fold_length(&events[at..]);
-        write_rows(rows, &events[at..next], clock as u64, None, f)?;
+    let last = ticks.saturating_sub(1) / FOLD * FOLD;
+    let mut left = events;
+    for clock in (0..last).step_by(FOLD) {
+        let (fold, rest) = left.split_at(fold_length(left));
+        write_rows(rows, fold, clock as u64, None, f)?;
         write_clock(clock, clock.saturating_add(FOLD - 1), f)?;
-        at = next;
-        clock = clock.saturating_add(FOLD);
+        left = rest;
     }
-    write_rows(rows, &events[at..], clock as u64, Some(ticks as u64), f)?;
-    write_clock(clock, ticks, f)
+    write_rows(rows, left, last as u64, Some(ticks as u64), f)?;
+    write_clock(last, ticks, f)
 }
 
 // A run of a board, with the records of its plan. It prints as a chart.
@@ -136,12 +115,14 @@ pub struct Chart<'a> {
 
 impl fmt::Display for Chart<'_> {
     fn fmt<W: fmt::Write>(&self, f: &mut fmt::Formatter<W>) -> fmt::Result {
-        let mut rows = [Row::EMPTY; MOST];
-        let count = start_rows(self.records, self.board, &mut rows);
+        let mut rows = [Row::new(Record::BLANK.name); Header::MOST_RECORDS];
+        let count = count_on(self.records, self.board).min(rows.len());
+        let rows = &mut rows[..count];
+        start_rows(self.records, self.board, rows);
         let ticks = clock_after(self.events);
         let board = self.board;
         writeln!(f, "board {board}, clock 0 to {ticks}")?;
-        write_folds(&mut rows[0..count], self.events, ticks, f)?;
+        write_folds(rows, self.events, ticks, f)?;
         writeln!(f, "# gets the tick   - waits for it   . has no job")?;
         write!(
             f,

@@ -8,6 +8,6 @@ mod rows;
 mod scripts;
 
 pub use charts::{Chart, count_on};
-pub use commands::{Command, parse_command};
+pub use commands::{Command, NoCommand};
 pub use replies::Reply;
 pub use scripts::{Script, calls_in_front, plan_end, read_script};

@@ -1,81 +1,67 @@
 // One duty's row of a chart.
-ghost use Rattle.std.specs.Prelude.{◌≡◌, if◌then◌else◌};
-ghost use Rattle.model.specs.Events.{gets, ticks_in};
+ghost use Rattle.std.specs.Prelude.{◌≡◌, ◌&&◌};
+ghost use Rattle.model.specs.Events.{is_tick, accepted, names};
 
 use duty::Name;
 use model::{Answer, Call, Event};
 use std::fmt;
 
+// When a job is due, and the ticks that it still needs: none once it is done.
+#[derive(Clone, Copy)]
+struct Job {
+    deadline: u64,
+    units: u32,
+}
+
 // What a place has while its row is written.
 #[derive(Clone, Copy)]
 pub(crate) struct Row {
     name: Name,
-    // The ticks that its job still needs, 0 where it has none.
-    units: u32,
-    // The last job's deadline, unless a call ended the job.
-    deadline: Option<u64>,
-    // Whether a job arrived, and whether a call ended one, since the last tick.
+    // The last job, unless a call ended it.
+    job: Option<Job>,
+    // Whether a job arrived, and whether a call ended one, since the last tick. Both may be.
     arrived: bool,
     ended: bool,
 }
 
 // Whether the event moves the clock.
 pub(crate) fn is_tick(event: &Event) -> bool
-    ensures { (if result then 1 else 0) ≡ ticks_in event.now }
+    ensures { result ≡ (is_tick event.now.call && accepted event.now.answer) }
 {
-    match (event.call, event.answer) {
-        (Call::Tick, Answer::Refused(_)) => false,
-        (Call::Tick, _) => true,
-        _ => false,
-    }
+    event.call == Call::Tick && !matches!(event.answer, Answer::Refused(_))
 }
 
 // Whether the event is a tick that the place got.
 fn gets_tick(event: &Event, place: usize) -> bool
-    ensures { (if result then 1 else 0) ≡ gets place event.now }
+    ensures { result ≡ (is_tick event.now.call && names place event.now.answer) }
 {
-    match (event.call, event.answer) {
-        (Call::Tick, Answer::Ran(Some(first))) => first == place,
-        _ => false,
-    }
+    event.call == Call::Tick && event.answer == Answer::Ran(Some(place))
 }
 
 impl Row {
-    // A row of no duty yet.
-    pub(crate) const EMPTY: Row = Row {
-        name: Name { bytes: [b' '; 8] },
-        units: 0,
-        deadline: None,
-        arrived: false,
-        ended: false,
-    };
-
     // The row of a duty of this name, of which nothing has arrived.
     pub(crate) fn new(name: Name) -> Row {
         Row {
             name,
-            units: 0,
-            deadline: None,
+            job: None,
             arrived: false,
             ended: false,
         }
     }
 
+    // Whether a job still needs ticks.
+    fn is_waiting(&self) -> bool {
+        self.job.is_some_and(|job| job.units > 0)
+    }
+
     // A call other than a tick, as far as it concerns the place.
     fn follow(&mut self, event: &Event, place: usize) {
         match (event.call, event.answer) {
-            (Call::Arrive(p), Answer::Granted { deadline, units }) => {
-                if p == place {
-                    self.units = units;
-                    self.deadline = Some(deadline);
-                    self.arrived = true;
-                }
+            (Call::Arrive(p), Answer::Granted { deadline, units }) if p == place => {
+                self.job = Some(Job { deadline, units });
+                self.arrived = true;
             }
-            (Call::Finish(p), Answer::Finished(_)) => {
-                if p == place {
-                    self.end();
-                }
-            }
+            (Call::Finish(p), Answer::Finished(_)) if p == place => self.end(),
             (Call::GeneralCancel, _) => self.end(),
             _ => {}
         }
@@ -83,22 +69,19 @@ impl Row {
 
     // A call ends the job, if there is one.
     fn end(&mut self) {
-        if self.units > 0 {
-            self.ended = true;
-        }
-        self.units = 0;
-        self.deadline = None;
+        self.ended |= self.is_waiting();
+        self.job = None;
     }
 
     // What happened at this reading of the clock.
     fn start_mark(&self, clock: u64) -> char {
-        let over = self.ended || self.deadline == Some(clock);
-        match (self.arrived, over) {
-            (true, true) => 'X',
-            (true, false) => '>',
-            (false, true) if self.ended => '/',
-            (false, true) => '|',
-            (false, false) => ' ',
+        let due = self.job.is_some_and(|job| job.deadline == clock);
+        match (self.arrived, self.ended, due) {
+            (false, false, false) => ' ',
+            (false, false, true) => '|',
+            (false, true, _) => '/',
+            (true, false, false) => '>',
+            (true, _, _) => 'X',
         }
     }
 
@@ -106,7 +89,7 @@ impl Row {
     fn tick_mark(&self, got: bool) -> char {
         if got {
             '#'
-        } else if self.units > 0 {
+        } else if self.is_waiting() {
             '-'
         } else {
             '.'
@@ -116,7 +99,9 @@ impl Row {
     // Goes on to the next tick.
     fn pass(&mut self, got: bool) {
         if got {
-            self.units = self.units.saturating_sub(1);
+            if let Some(job) = &mut self.job {
+                job.units = job.units.saturating_sub(1);
+            }
         }
         self.arrived = false;
         self.ended = false;
@@ -155,10 +140,9 @@ impl Row {
         clock: u64,
         f: &mut fmt::Formatter<W>,
     ) -> fmt::Result {
-        let mark = self.start_mark(clock);
-        if mark != ' ' {
-            f.write_char(mark)?;
+        match self.start_mark(clock) {
+            ' ' => Ok(()),
+            mark => f.write_char(mark),
         }
-        Ok(())
     }
 }

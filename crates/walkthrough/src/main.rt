@@ -9,27 +9,16 @@ use placing::{Lined, place};
 use reader::read_table;
 use std::io::{Read, Write};
 use std::{fmt, io};
+use thiserror::Error;
 use writer::write_plan;
 
-const DUTIES: usize = Header::MOST_DUTIES as usize;
-
 // Why a walkthrough ends early.
-#[derive(Drop)]
+#[derive(Debug, Drop, Error)]
 enum Stop {
-    Refused(Fault),
-    Failed(io::Error),
-}
-
-impl From<Fault> for Stop {
-    fn from(fault: Fault) -> Stop {
-        Stop::Refused(fault)
-    }
-}
-
-impl From<io::Error> for Stop {
-    fn from(error: io::Error) -> Stop {
-        Stop::Failed(error)
-    }
+    #[error("{0}")]
+    Refused(#[from] Fault),
+    #[error(transparent)]
+    Failed(#[from] io::Error),
 }
 
 // Prints as the name without its blanks, which only follow it, and the board.
@@ -66,7 +55,7 @@ fn place_all(rt: &HostRuntime, header: &Header, records: &mut [Record]) -> Resul
         &header.letter(),
         header,
         records,
-        &mut [Lined::UNUSED; DUTIES],
+        &mut [Lined::UNUSED; Header::MOST_RECORDS],
     )?;
     for record in records.iter().take(header.duties() as usize) {
         rt.println(Placed(record))?;
@@ -88,7 +77,7 @@ fn write(
 }
 
 fn walk(rt: &HostRuntime, text: &[u8], out: &mut [u8]) -> Result<(), Stop> {
-    let mut records = [Record::BLANK; DUTIES];
+    let mut records = [Record::BLANK; Header::MOST_RECORDS];
     let header = read(rt, text, &mut records)?;
     place_all(rt, &header, &mut records)?;
     write(rt, &header, &records, out)

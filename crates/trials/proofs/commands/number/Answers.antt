@@ -1,17 +1,16 @@
-use Rattle.std.proofs.Common.{ℕ, List, get_or, ap, arith}
-use Rattle.trials.proofs.Numbers.{first_digit, bare_number, nothing_first}
+use Rattle.std.proofs.Common.{ℕ, List, [], ◌∷◌, get_or, ap, ◌∙◌, arith}
+use Rattle.std.proofs.lemmas.Slice.Eq.{starts_is}
+use Rattle.std.proofs.lemmas.Bool.Decides.{Decides-eqb}
+use Rattle.trials.proofs.Numbers.{first_digit, bare_number, no_blank_first}
 use Rattle.trials.proofs.commands.number.Goals as goal
-use Rattle.trials.proofs.commands.number.Goals.{else-digits-gt0-via-then-digits-gt0+else-digits-eq32, else-digits-gt0-via-else-digits-gt0}
 
-pub returns-then-digits-eq32 : goal.returns-then-digits-eq32
-returns-then-digits-eq32 c = λ n s e.
-    let first = ap (λ (xs : List ℕ). get_or xs 0 0) e in
-    omega (arith, first_digit n s, first, c.if-digits-eq32.true)
+pub returns-then-starts_with : goal.returns-then-starts_with
+returns-then-starts_with c = λ n s e.
+    let blank = (starts_is Decides-eqb c.args.digits.now (32 ∷ []) c.starts_with.result c.starts_with.ensures.value).0 c.if-starts_with.true in
+    let first = ap (λ (xs : List ℕ). get_or xs 0 0) (e ∙ blank) in
+    omega (arith, first_digit n s, first)
 
-pub returns : goal.returns
-returns c = bare_number c.args.digits.now c.read_number.result c.read_number.ensures.answer (
-    elim c.else-digits-gt0.branch [
-      | else-digits-gt0-via-then-digits-gt0+else-digits-eq32 w ↦ w.if-digits-eq32.false
-      | else-digits-gt0-via-else-digits-gt0 w ↦ nothing_first c.args.digits.now w.if-digits-gt0.false
-    ]
-    )
+pub returns-else-starts_with : goal.returns-else-starts_with
+returns-else-starts_with c =
+    let starts = starts_is Decides-eqb c.args.digits.now (32 ∷ []) c.starts_with.result c.starts_with.ensures.value in
+    bare_number c.args.digits.now c.read_number.result c.read_number.ensures.answer (no_blank_first c.args.digits.now c.starts_with.result starts.1 c.if-starts_with.false)
