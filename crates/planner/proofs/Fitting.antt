@@ -1,6 +1,6 @@
 -- Placed records are duty records of the cycle still: only their boards changed, to boards of the rack.
 use Rattle.std.proofs.Common.{◌≡◌, ℕ, suc, ◌+◌, ◌%◌, ◌<◌, ◌≤◌, true, eqb, List, [], ◌∷◌, length, get_or, None, sym, refl, ap, ◌∙◌, arith}
-use Rattle.std.specs.Option.{option_map}
+use Rattle.std.proofs.ByRecursion.{all-has, has_get_or}
 use Rattle.std.specs.List.{AllByRecursion}
 use Rattle.std.proofs.lemmas.Bool.{cond-true, and_from, and_parts, le-leb}
 use Rattle.duty.specs.declared.names.Name.{Name}
@@ -13,15 +13,15 @@ use Rattle.columns.specs.declared.forms.Form.{Form}
 use Rattle.columns.specs.declared.forms.Form.TheVariants.{Table, Plan}
 use Rattle.columns.specs.Texts.{Writable}
 use Rattle.boards.specs.Lists.{no_record}
+use Rattle.plans.proofs.Passing.{all_passing}
 use Rattle.placing.specs.FirstFit.{moved_to, cleared}
 
 abbrev pub Fits : ℕ → Record → Type 0
 Fits cycle r = in_cycle cycle r ≡ true
 
 pub no_misfit : (cycle : ℕ) (rs : List Record) → AllByRecursion (Fits cycle) rs → first_misfit cycle rs ≡ None
-no_misfit cycle [] h = refl
-no_misfit cycle (r ∷ rs) h =
-    cond-true (in_cycle cycle r) _ _ h.0 ∙ ap (option_map (λ i. i + 1)) (no_misfit cycle rs h.1)
+no_misfit cycle rs h =
+    all_passing (in_cycle cycle) no_record rs (λ k l. all-has (Fits cycle) rs _ h (has_get_or rs k no_record l))
 
 pub writable_fits : (form : Form) (cycle : ℕ) (rs : List Record) → AllByRecursion (Writable form cycle) rs → AllByRecursion (Fits cycle) rs
 writable_fits form cycle [] h = tt
