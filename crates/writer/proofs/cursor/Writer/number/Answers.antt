@@ -7,7 +7,7 @@ pub returns : goal.returns
 returns c =
     let written = c.write_number.ensures in
     record {
-      holds = number_is _ (width c.args.field) c.args.n c.args.self.now.out.now _ c.write_number.result (omega arith) (omega arith) c.requires.fits (omega arith) written.answer written.after;
+      holds = number_is _ (width c.args.field) c.args.n c.args.self.now.out.now (omega arith) (omega arith) c.requires.fits (omega arith) _ c.write_number.result written.answer written.after;
       stands = refl;
       long = search rules;
       same = refl;
