@@ -38,17 +38,16 @@ rest_is i w bs out rest long given =
     ∙ ap (λ (l : List ℕ). take i out ++ l) (append-nil rest ∙ given ∙ ap (λ (l : List ℕ). bs ++ l) left)
     ∙ sym (paste_all out i bs (length bs) (search rules))
 
--- a number that is below ten to its columns is written there
-pub number_fits : (w n : ℕ) (out : List ℕ) → 0 < w → w ≤ widest → n < 10 ^ w → w ≤ length out → fits_in w n out ≡ true
-number_fits w n out some few below room =
-    and_from (leb w (length out)) (leb (length (decimal n)) w) (le-leb w (length out) room) (le-leb (length (decimal n)) w (length-decimal-le w n some below (omega (arith, small w n few below))))
+-- a number that is below ten to its columns is written into the rest of the output, and fills them
+module _ (i w n : ℕ) (out : List ℕ) (some : 0 < w) (few : w ≤ widest) (below : n < 10 ^ w) (room : i + w ≤ length out) where
+  pub number_fits : fits_in w n (take (length out - i) (drop i out)) ≡ true
+  number_fits =
+      let part = take (length out - i) (drop i out) in
+      let long : w ≤ length part = omega (arith, ap length (take_rest out i), length-drop i out) in
+      and_from (leb w (length part)) (leb (length (decimal n)) w) (le-leb w (length part) long) (le-leb (length (decimal n)) w (length-decimal-le w n some below (omega (arith, small w n few below))))
 
--- a number written into the rest of the output fills its columns
-pub number_is : (i w n : ℕ) (out rest : List ℕ) (ok : Bool) → 0 < w → w ≤ widest → n < 10 ^ w → i + w ≤ length out → ok ≡ fits_in w n (take (length out - i) (drop i out)) → rest ≡ cond ok (justified w n ++ drop w (take (length out - i) (drop i out))) (take (length out - i) (drop i out)) → put_mid i (length out - i) out rest ≡ put i (justified w n) out
-number_is i w n out rest ok some few below room answer after =
-    let part = take (length out - i) (drop i out) in
-    let long : w ≤ length part = omega (arith, ap length (take_rest out i), length-drop i out) in
-    rest_is i w (justified w n) out rest (length_justified w n some few below) (after ∙ cond-true ok _ _ (answer ∙ number_fits w n part some few below long))
+  pub number_is : (rest : List ℕ) (ok : Bool) → ok ≡ fits_in w n (take (length out - i) (drop i out)) → rest ≡ cond ok (justified w n ++ drop w (take (length out - i) (drop i out))) (take (length out - i) (drop i out)) → put_mid i (length out - i) out rest ≡ put i (justified w n) out
+  number_is rest ok answer after = rest_is i w (justified w n) out rest (length_justified w n some few below) (after ∙ cond-true ok _ _ (answer ∙ number_fits))
 
 -- lines after lines
 pub appended : (u v w : Writer) (xs ys : List ℕ) → Appended xs u v → Appended ys v w → u.pos ≤ length u.out.now → Appended (xs ++ ys) u w

@@ -5,15 +5,14 @@ use Rattle.writer.proofs.cursor.Writer.number.Goals as goal
 
 pub unwrap-requires : goal.unwrap-requires
 unwrap-requires c =
-    let written = c.write_number.ensures in
-    let fits = written.answer ∙ number_fits (width c.args.field) c.args.n _ (omega arith) (omega arith) c.requires.fits (omega arith) in
+    let fits = c.write_number.ensures.answer ∙ number_fits _ (width c.args.field) c.args.n c.args.self.now.out.now (omega arith) (omega arith) c.requires.fits (omega arith) in
     search (rules, fits)
 
 pub returns : goal.returns
 returns c =
     let written = c.write_number.ensures in
     record {
-      holds = number_is _ (width c.args.field) c.args.n c.args.self.now.out.now _ (is_ok c.write_number.result) (omega arith) (omega arith) c.requires.fits (omega arith) written.answer written.after;
+      holds = number_is _ (width c.args.field) c.args.n c.args.self.now.out.now (omega arith) (omega arith) c.requires.fits (omega arith) _ (is_ok c.write_number.result) written.answer written.after;
       stands = refl;
       long = search rules;
       same = refl;
