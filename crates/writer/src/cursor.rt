@@ -12,8 +12,8 @@ ghost use Rattle.writer.specs.Puts.{Wrote, Placed, Appended, Fitting, Sized};
 ghost use Rattle.writer.specs.Written.{whole};
 
 use columns::{
-    BOARD, BOARDS, COST, CYCLE, DEADLINE, DUTIES, Field, Form, HEADER_WIDTH, LETTER_COLUMN, SPACING,
-    write_number,
+    BOARD, BOARDS, COST, CYCLE, DEADLINE, DUTIES, Field, Form, HEADER_WIDTH, LETTER_COLUMN,
+    SPACING, write_number,
 };
 use duty::{Header, Record};
 

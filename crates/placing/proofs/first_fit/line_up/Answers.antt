@@ -1,4 +1,4 @@
-use Rattle.std.proofs.Common.{◌≡◌, ◌+◌, ◌<◌, length, ap, ◌∙◌, arith}
+use Rattle.std.proofs.Common.{◌+◌, ◌<◌, length, ap, ◌∙◌, arith}
 use Rattle.heap.proofs.Holding.{taken}
 use Rattle.heap.specs.Held.{held, memory, room}
 use Rattle.boards.specs.Lists.{no_record}
