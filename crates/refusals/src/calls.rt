@@ -62,20 +62,6 @@ impl Call {
         Ok(())
     }
 
-    fn read(&self, text: &[u8], records: &mut [Record]) -> Result<Header, Fault> {
-        match self.form {
-            Form::Table => reader::read_table(text, records),
-            Form::Plan => reader::read_plan(text, records),
-        }
-    }
-
-    fn write(&self, header: &Header, records: &[Record], out: &mut [u8]) -> Result<usize, Fault> {
-        match self.form {
-            Form::Table => writer::write_table(header, records, out),
-            Form::Plan => writer::write_plan(header, records, out),
-        }
-    }
-
     // Reads the text into the records, makes the change, and writes the text into the output.
     pub fn run(
         &self,
@@ -83,12 +69,12 @@ impl Call {
         records: &mut Vec<Record>,
         out: &mut Vec<u8>,
     ) -> Result<Outcome, Fault> {
-        let header = self.read(text, records.as_mut_slice())?;
+        let header = reader::read(self.form, text, records.as_mut_slice())?;
         if let Some(change) = self.change {
             change.apply(records.as_mut_slice());
         }
         records.truncate(self.rows);
-        let length = self.write(&header, records.as_slice(), out.as_mut_slice())?;
+        let length = writer::write(self.form, &header, records.as_slice(), out.as_mut_slice())?;
         out.truncate(length);
         if out.as_slice() == text {
             Ok(Outcome::Same(header.duties() as usize))

@@ -1,8 +1,9 @@
 // The plan of a trial.
+use columns::Form;
 use duty::{Header, Record};
 use fault::Fault;
 use plans::OpenPlan;
-use reader::read_plan;
+use reader::read;
 
 // A plan that can be closed under its header's gauge: the header, and the records of its duties.
 #[derive(Clone, Copy)]
@@ -17,7 +18,7 @@ impl<'a> Rack<'a> {
         text: &[u8],
         records: &'a mut [Record; Header::MOST_RECORDS],
     ) -> Result<Rack<'a>, Fault> {
-        let header = read_plan(text, records)?;
+        let header = read(Form::Plan, text, records)?;
         OpenPlan::new(header, records).check(&header.letter())?;
         Ok(Rack {
             header,

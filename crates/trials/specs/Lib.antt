@@ -1,2 +1,3 @@
 pub mod Commands
 pub mod Folds
+pub mod Scripts

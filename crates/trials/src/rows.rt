@@ -3,21 +3,14 @@ ghost use Rattle.std.specs.Prelude.{◌≡◌, ◌&&◌};
 ghost use Rattle.model.specs.Events.{is_tick, accepted, names};
 
 use duty::Name;
-use model::{Answer, Call, Event};
+use model::{Answer, Call, Event, Job};
 use std::fmt;
-
-// When a job is due, and the ticks that it still needs: none once it is done.
-#[derive(Clone, Copy)]
-struct Job {
-    deadline: u64,
-    units: u32,
-}
 
 // What a place has while its row is written.
 #[derive(Clone, Copy)]
 pub(crate) struct Row {
     name: Name,
-    // The last job, unless a call ended it.
+    // The last job, unless a call ended it. It stays when it is done, and its units are 0 then.
     job: Option<Job>,
     // Whether a job arrived, and whether a call ended one, since the last tick. Both may be.
     arrived: bool,

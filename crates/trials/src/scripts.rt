@@ -1,7 +1,8 @@
 // A trial's input: a plan's text, and then a command a line.
-ghost use Rattle.std.specs.Prelude.{◌≡◌, ◌≤◌, length};
+ghost use Rattle.std.specs.Prelude.{◌≡◌, ◌≤◌, length, IfOk};
 ghost use Rattle.std.specs.List.{prefix_len};
 ghost use Rattle.trials.specs.Commands.{is_call};
+ghost use Rattle.trials.specs.Scripts.{IsScript};
 
 use crate::commands::{Command, NoCommand};
 use columns::Form;
@@ -26,7 +27,9 @@ pub fn plan_end(text: &[u8]) -> usize
 }
 
 // Reads the commands, a line each. The last line may lack its end byte.
-pub fn read_script(heap: Global, text: &[u8]) -> Result<Script, AllocError> {
+pub fn read_script(heap: Global, text: &[u8]) -> Result<Script, AllocError>
+    ensures { IfOk result (λ script. IsScript text.now script.commands.items script.end) }
+{
     let mut commands = Vec::new(heap);
     for line in text.split_inclusive(|byte| *byte == b'\n') {
         match Command::try_from(line.strip_suffix(b"\n").unwrap_or(line)) {

@@ -6,11 +6,9 @@ use columns::Form;
 use duty::{Header, Record};
 use fault::Fault;
 use placing::{Lined, place};
-use reader::read_table;
 use std::io::{Read, Write};
 use std::{fmt, io};
 use thiserror::Error;
-use writer::write_plan;
 
 // Why a walkthrough ends early.
 #[derive(Debug, Drop, Error)]
@@ -39,7 +37,7 @@ impl fmt::Display for Placed<'_> {
 
 // Reads the table, and tells its size.
 fn read(rt: &HostRuntime, text: &[u8], records: &mut [Record]) -> Result<Header, Stop> {
-    let header = read_table(text, records)?;
+    let header = reader::read(Form::Table, text, records)?;
     println!(rt;
         "read {} duties for {} boards, cycle {}",
         header.duties(),
@@ -70,7 +68,7 @@ fn write(
     records: &[Record],
     out: &mut [u8],
 ) -> Result<(), Stop> {
-    let length = write_plan(header, records, out)?;
+    let length = writer::write(Form::Plan, header, records, out)?;
     println!(rt; "wrote {length} bytes")?;
     rt.stdout().write_all(&out[0..length])?;
     Ok(())
