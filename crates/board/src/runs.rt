@@ -17,9 +17,6 @@ use model::Event;
 use plans::{ClosedPlan, OpenPlan};
 use queue::ReadyQueue;
 
-// The most duties of a plan.
-const MOST: usize = Header::MOST_DUTIES as usize;
-
 impl<Q: ReadyQueue> RunningBoard<Q> {
     // Makes the calls in their order, and writes each answer beside its call.
     fn play(&mut self, events: &mut [Event])
@@ -98,7 +95,7 @@ pub fn run_plan<G: Gauge + Drop, Q: ReadyQueue>(
     ensures passing { OnOk result.1 (G.passed gauge (listed (head header) records.now number) header.cycle ≡ true) }
     ensures refused_lists { RefusedListsLeaveAJobShort }
 {
-    let mut rows = [Record::BLANK; MOST];
+    let mut rows = [Record::BLANK; Header::MOST_RECORDS];
     let n = copy_rows(records, &mut rows);
     run_rows(header, &mut rows[..n], gauge, number, queue, events)
 }
