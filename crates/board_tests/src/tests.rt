@@ -1,23 +1,13 @@
 // Two boards with one duty each, under the density gauge at cycle 100.
 use board::run_plan;
-use duty::{Header, Letter, Name, Record, Timing};
+use duty::{Header, Letter, Record, Timing};
 use fault::{Cause, Fault};
 use gauge::Density;
 use model::{Answer, Call, Event};
 use queue::RowQueue;
 
 fn row(cost: u32, board: u8) -> Record {
-    Record {
-        name: Name {
-            bytes: *b"STOP-8  ",
-        },
-        timing: Timing {
-            cost,
-            deadline: 10,
-            spacing: 100,
-        },
-        board,
-    }
+    Record::new(*b"STOP-8  ", Timing::new(cost, 10, 100), board)
 }
 
 const CALLS: [Call; 4] = [

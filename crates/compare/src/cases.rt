@@ -1,6 +1,6 @@
 // Cases with the answers of an outside implementation, read from one line of text each.
 use anyhow::{Context, anyhow};
-use duty::{Letter, Name, Record, Timing};
+use duty::{Letter, Record, Timing};
 use std::alloc::Global;
 use std::fmt;
 use std::str::FromStr;
@@ -37,10 +37,6 @@ pub enum Case {
     Gauges(GaugeCase),
     Placing(PlacingCase),
 }
-
-const NAME: Name = Name {
-    bytes: *b"DUTY    ",
-};
 
 fn mark(verdict: bool) -> char {
     if verdict { 'y' } else { 'n' }
@@ -94,26 +90,18 @@ fn read_timing(row: &[u32]) -> anyhow::Result<Timing> {
     let [cost, deadline, spacing] = *row else {
         return Err(anyhow!("a list has three numbers a duty"));
     };
-    Ok(Timing {
-        cost,
-        deadline,
-        spacing,
-    })
+    Ok(Timing::new(cost, deadline, spacing))
 }
 
 fn read_record(row: &[u32]) -> anyhow::Result<Record> {
     let [cost, deadline, spacing, board] = *row else {
         return Err(anyhow!("a placing has four numbers a duty"));
     };
-    Ok(Record {
-        name: NAME,
-        timing: Timing {
-            cost,
-            deadline,
-            spacing,
-        },
-        board: u8::try_from(board)?,
-    })
+    Ok(Record::new(
+        *b"DUTY    ",
+        Timing::new(cost, deadline, spacing),
+        u8::try_from(board)?,
+    ))
 }
 
 fn read_gauges(heap: Global, word: &str, numbers: &[u32]) -> anyhow::Result<GaugeCase> {

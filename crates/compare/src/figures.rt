@@ -6,14 +6,6 @@ use std::io;
 // Densities are counted in millionths.
 const WHOLE: u64 = 1_000_000;
 
-const fn timing(cost: u32, deadline: u32, spacing: u32) -> Timing {
-    Timing {
-        cost,
-        deadline,
-        spacing,
-    }
-}
-
 fn verdict(passes: bool) -> &'static str {
     if passes { "passes" } else { "is refused" }
 }
@@ -40,7 +32,11 @@ fn densities_down(duties: &[Timing]) -> u64 {
 
 // 2/5/10, 3/6/12 and 2/8/20 at 8, the sums times the cycle of 120.
 fn print_slope(rt: &HostRuntime) -> io::Result<()> {
-    let duties = [timing(2, 5, 10), timing(3, 6, 12), timing(2, 8, 20)];
+    let duties = [
+        Timing::new(2, 5, 10),
+        Timing::new(3, 6, 12),
+        Timing::new(2, 8, 20),
+    ];
     let steps = steps_at(&duties, 120, 8);
     let lines = Slope.sum_at(&duties, 120, 8).unwrap_or(0);
     let looks = verdict(steps <= 8 * 120);
@@ -50,8 +46,8 @@ fn print_slope(rt: &HostRuntime) -> io::Result<()> {
 
 // Three times 1/3/3, and 1/999999/999999.
 fn print_density(rt: &HostRuntime) -> io::Result<()> {
-    let short = timing(1, 3, 3);
-    let duties = [short, short, short, timing(1, 999_999, 999_999)];
+    let short = Timing::new(1, 3, 3);
+    let duties = [short, short, short, Timing::new(1, 999_999, 999_999)];
     let down = densities_down(&duties);
     let demand = Exact.demand_at(&duties, 999_999, 999_999).unwrap_or(0);
     let looks = verdict(down <= WHOLE);

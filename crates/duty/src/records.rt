@@ -5,7 +5,7 @@ ghost use Rattle.duty.specs.Records.{duty_record, in_cycle, first_misfit};
 use super::names::Name;
 use super::timings::Timing;
 
-// A row of a table or plan: name, timing, and the number of its board, 0 where it has none.
+// A row of a table or plan: name, timing, and the number of its board, 0 where it has none, as in a plan's columns.
 #[derive(Clone, Copy, PartialEq, Eq, Debug)]
 pub struct Record {
     pub name: Name,
@@ -14,6 +14,16 @@ pub struct Record {
 }
 
 impl Record {
+    pub const fn new(name: [u8; 8], timing: Timing, board: u8) -> Record
+        ensures { result ≡ record { name = record { bytes = name }; timing = timing; board = board } }
+    {
+        Record {
+            name: Name { bytes: name },
+            timing,
+            board,
+        }
+    }
+
     // A row that holds nothing yet: no duty record.
     pub const BLANK: Record = Record {
         name: Name { bytes: [b' '; 8] },

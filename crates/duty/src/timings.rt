@@ -1,4 +1,5 @@
 // The three numbers of a duty, unchecked.
+ghost use Rattle.std.specs.Prelude.{◌≡◌};
 
 // The most ticks that a cost, a deadline, a spacing or a cycle may have.
 pub const LONGEST: u32 = 1_000_000;
@@ -13,6 +14,16 @@ pub struct Timing {
 }
 
 impl Timing {
+    pub const fn new(cost: u32, deadline: u32, spacing: u32) -> Timing
+        ensures { result ≡ record { cost = cost; deadline = deadline; spacing = spacing } }
+    {
+        Timing {
+            cost,
+            deadline,
+            spacing,
+        }
+    }
+
     // All zero: no duty's timing.
     pub const NONE: Timing = Timing {
         cost: 0,

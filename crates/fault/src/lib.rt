@@ -64,7 +64,7 @@ pub enum Layer {
     Call,
 }
 
-// A refusal. Lines and columns count from 1; 0 stands where the cause has none.
+// A refusal. Lines and columns count from 1; 0 stands where the cause has none, as it does where a refusal is printed.
 #[derive(Clone, Copy, PartialEq, Eq, Debug)]
 pub struct Fault {
     pub cause: Cause,
@@ -74,7 +74,7 @@ pub struct Fault {
 }
 
 impl Cause {
-    // The number by which users know the cause.
+    // The number by which users know the cause. Several causes may have one, so it is no discriminant.
     pub fn number(&self) -> u8
         ensures { result ≡ number self.now }
     {

@@ -2,14 +2,6 @@
 use crate::gauges::Gauge;
 use duty::{LONGEST, Letter, Timing};
 
-fn timing(cost: u32, deadline: u32, spacing: u32) -> Timing {
-    Timing {
-        cost,
-        deadline,
-        spacing,
-    }
-}
-
 // What density, slope and exact say.
 fn verdicts(duties: &[Timing], cycle: u32) -> (bool, bool, bool) {
     (
@@ -25,25 +17,29 @@ const NO: (bool, bool, bool) = (false, false, false);
 
 #[test]
 fn gauges_differ(rt: HostRuntime) {
-    let duties = [timing(2, 5, 10), timing(3, 6, 12), timing(2, 8, 20)];
+    let duties = [
+        Timing::new(2, 5, 10),
+        Timing::new(3, 6, 12),
+        Timing::new(2, 8, 20),
+    ];
     assert_eq!(rt; verdicts(&duties[0..2], 120), YES);
     assert_eq!(rt; verdicts(&duties, 120), (false, false, true));
 }
 
 #[test]
 fn one_full_duty(rt: HostRuntime) {
-    assert_eq!(rt; verdicts(&[timing(1, 1, 1)], 1), YES);
-    assert_eq!(rt; verdicts(&[timing(1, 1, 1); 2], 1), NO);
+    assert_eq!(rt; verdicts(&[Timing::new(1, 1, 1)], 1), YES);
+    assert_eq!(rt; verdicts(&[Timing::new(1, 1, 1); 2], 1), NO);
 }
 
 #[test]
 fn limits(rt: HostRuntime) {
-    let duties = [timing(1, 100, 100); 65];
+    let duties = [Timing::new(1, 100, 100); 65];
     assert_eq!(rt; verdicts(&duties[0..64], 100), YES);
     assert_eq!(rt; verdicts(&duties, 100), NO);
     assert_eq!(rt; verdicts(&duties[0..1], 150), NO);
-    assert_eq!(rt; verdicts(&[timing(0, 100, 100)], 100), NO);
-    assert_eq!(rt; verdicts(&[timing(101, 100, 100)], 100), NO);
+    assert_eq!(rt; verdicts(&[Timing::new(0, 100, 100)], 100), NO);
+    assert_eq!(rt; verdicts(&[Timing::new(101, 100, 100)], 100), NO);
 }
 
 #[test]

@@ -5,7 +5,7 @@ use crate::entry::Entry;
 
 mod calls;
 
-// The first `len` slots are held.
+// The first `len` slots are held. The slots are lent, and a heap allocates nothing, so the count stands beside them.
 #[derive(Drop)]
 pub struct Heap<'a, T: Entry> {
     slots: &'a mut [T],

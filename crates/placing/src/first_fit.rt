@@ -26,7 +26,8 @@ fn clear_boards(records: &mut [Record])
     }
 }
 
-// Puts the record at i on the lowest board that takes it.
+// Puts the record at i on the lowest board that takes it. Gauge and header are two parameters, as in the public call: a
+// type of both would only make the clauses longer.
 fn place_one<G: Gauge>(
     gauge: &G,
     header: &Header,

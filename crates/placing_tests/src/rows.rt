@@ -1,22 +1,12 @@
 // Rows to place: all with spacing 100, under the density gauge at cycle 100. A duty takes the share
 // cost ÷ deadline of its board, and the shares on a board are together at most one.
-use duty::{Header, Letter, Name, Record, Timing};
+use duty::{Header, Letter, Record, Timing};
 use fault::{Cause, Fault};
 use gauge::Density;
 use placing::{Lined, place};
 
 pub fn row(cost: u32, deadline: u32, board: u8) -> Record {
-    Record {
-        name: Name {
-            bytes: *b"STOP-8  ",
-        },
-        timing: Timing {
-            cost,
-            deadline,
-            spacing: 100,
-        },
-        board,
-    }
+    Record::new(*b"STOP-8  ", Timing::new(cost, deadline, 100), board)
 }
 
 // Scratch entries that placing did not write: it has no such index.

@@ -1,22 +1,12 @@
 // Closing, refused and accepted. All rows have spacing 100, at cycle 100 under the density gauge: a duty
 // takes the share cost ÷ deadline of its board, and the shares on a board are together at most one.
 use super::OpenPlan;
-use duty::{Header, Letter, Name, Record, Timing};
+use duty::{Header, Letter, Record, Timing};
 use fault::{Cause, Fault};
 use gauge::Density;
 
 fn row(cost: u32, board: u8) -> Record {
-    Record {
-        name: Name {
-            bytes: *b"STOP-8  ",
-        },
-        timing: Timing {
-            cost,
-            deadline: 100,
-            spacing: 100,
-        },
-        board,
-    }
+    Record::new(*b"STOP-8  ", Timing::new(cost, 100, 100), board)
 }
 
 fn refused(cause: Cause, line: usize, column: usize) -> Option<Result<(), Fault>> {

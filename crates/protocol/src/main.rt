@@ -5,7 +5,7 @@
 
 use anyhow::Context;
 use board::BareBoard;
-use duty::{Header, Letter, Name, Record, Timing};
+use duty::{Header, Letter, Record, Timing};
 use fault::Fault;
 use gauge::Exact;
 use plans::OpenPlan;
@@ -36,18 +36,6 @@ impl fmt::Display for Answers {
     }
 }
 
-const fn row(name: [u8; 8], cost: u32, deadline: u32, spacing: u32) -> Record {
-    Record {
-        name: Name { bytes: name },
-        timing: Timing {
-            cost,
-            deadline,
-            spacing,
-        },
-        board: 1,
-    }
-}
-
 fn use_board(header: Header, records: &mut [Record]) -> Result<Answers, Fault> {
     let open = OpenPlan::new(header, records);
     open.check(&Exact)?;
@@ -68,7 +56,10 @@ fn use_board(header: Header, records: &mut [Record]) -> Result<Answers, Fault> {
 }
 
 fn run(rt: &HostRuntime) -> anyhow::Result<()> {
-    let mut records = [row(*b"GREAT   ", 1, 5, 10), row(*b"SWELL   ", 3, 6, 20)];
+    let mut records = [
+        Record::new(*b"GREAT   ", Timing::new(1, 5, 10), 1),
+        Record::new(*b"SWELL   ", Timing::new(3, 6, 20), 1),
+    ];
     let header = Header::new(Letter::Exact, 1, 2, 20).context("the header keeps its limits")?;
     match use_board(header, &mut records) {
         Ok(answers) => Ok(rt.println(answers)?),

@@ -56,6 +56,7 @@ impl<'a> Reader<'a> {
         let header = self.header(form)?;
         let duties = header.duties() as usize;
         if records.len() < duties {
+            // At the header's line, which the cursor has passed.
             return Err(Fault {
                 cause: Cause::RecordsShort,
                 line: 1,

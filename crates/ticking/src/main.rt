@@ -4,7 +4,7 @@
 
 use anyhow::{Context, anyhow, ensure};
 use board::{BareBoard, RunningBoard};
-use duty::{Header, Letter, Name, Record, Timing};
+use duty::{Header, Letter, Record, Timing};
 use heap_queue::{HeapQueue, Timed};
 use plans::{ClosedPlan, OpenPlan};
 use queue::{PLACES, ReadyQueue, RowQueue};
@@ -14,17 +14,7 @@ use std::env;
 const SPACING: u32 = 128;
 
 fn duty(deadline: u32) -> Record {
-    Record {
-        name: Name {
-            bytes: *b"STOP-8  ",
-        },
-        timing: Timing {
-            cost: 2,
-            deadline,
-            spacing: SPACING,
-        },
-        board: 1,
-    }
+    Record::new(*b"STOP-8  ", Timing::new(2, deadline, SPACING), 1)
 }
 
 // Every other tick the next duty arrives, so that each comes as often as it may.

@@ -21,6 +21,7 @@ fn play_with_heap(rt: &HostRuntime, trial: &Trial) -> anyhow::Result<()> {
     Ok(())
 }
 
+// Plays the trial with a row, which has no memory to check and to give back.
 fn play_with_row(rt: &HostRuntime, trial: &Trial) -> anyhow::Result<()> {
     let _ = trial.play(rt, RowQueue::new())?;
     Ok(())

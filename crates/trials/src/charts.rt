@@ -115,6 +115,7 @@ pub struct Chart<'a> {
 
 impl fmt::Display for Chart<'_> {
     fn fmt<W: fmt::Write>(&self, f: &mut fmt::Formatter<W>) -> fmt::Result {
+        // An array and a count, since printing has no allocator.
         let mut rows = [Row::new(Record::BLANK.name); Header::MOST_RECORDS];
         let count = count_on(self.records, self.board).min(rows.len());
         let rows = &mut rows[..count];

@@ -1,28 +1,16 @@
 // A worked example, and each refusal.
 use super::write;
 use columns::Form;
-use duty::{Header, Letter, Name, Record, Timing};
+use duty::{Header, Letter, Record, Timing};
 use fault::{Cause, Fault};
 use std::test::Fail;
 
-fn row(name: &[u8; 8], cost: u32, deadline: u32, spacing: u32, board: u8) -> Record {
-    Record {
-        name: Name { bytes: *name },
-        timing: Timing {
-            cost,
-            deadline,
-            spacing,
-        },
-        board,
-    }
-}
-
 fn rows() -> [Record; 4] {
     [
-        row(b"SHADES  ", 4, 12, 24, 1),
-        row(b"GREAT   ", 2, 5, 10, 1),
-        row(b"SWELL   ", 3, 6, 12, 1),
-        row(b"PEDAL   ", 2, 8, 20, 2),
+        Record::new(*b"SHADES  ", Timing::new(4, 12, 24), 1),
+        Record::new(*b"GREAT   ", Timing::new(2, 5, 10), 1),
+        Record::new(*b"SWELL   ", Timing::new(3, 6, 12), 1),
+        Record::new(*b"PEDAL   ", Timing::new(2, 8, 20), 2),
     ]
 }
 
