@@ -9,24 +9,30 @@ use Rattle.std.proofs.ByRecursion.{all_shuffled}
 use Rattle.fault.specs.declared.Fault.{Fault}
 use Rattle.duty.specs.declared.records.Record.{Record}
 use Rattle.duty.specs.declared.timings.Timing.{Timing}
+use Rattle.heap.specs.declared.entry.Entry.{Ghosts}
+use Rattle.heap.specs.declared.binary.Heap.{Heap}
+use Rattle.heap.specs.Calls.{Kept}
+use Rattle.heap.specs.Held.{memory}
+use Rattle.heap.specs.Pairs.{pair_total, pair_chain, pair_level}
 use Rattle.heap.specs.Sorted.{sorted, keys_in_order}
+use Rattle.heap.proofs.Draining.{kept_on}
 use Rattle.heap.proofs.Sorting.{keys_any_order}
 use Rattle.placing.specs.declared.lined.Lined.{Lined}
 use Rattle.placing.specs.FirstFit.{seat, fit, placed}
-use Rattle.placing.specs.Order.{sooner, lined_key, lined, taken}
+use Rattle.placing.specs.Order.{pair_of, sooner, lined_key, lined, taken}
 use Rattle.placing.specs.Outcome.{placed_answer}
 use Rattle.placing.specs.Scratch.{Past}
 
 -- the order is total
 
 pub total : (x y : Lined) → sooner x y ≡ false → sooner y x ≡ true
-total x y e = search rules
+total x y = pair_total (pair_of x) (pair_of y)
 
 pub chain : (x y z : Lined) → sooner x y ≡ true → sooner y z ≡ true → sooner x z ≡ true
-chain x y z p q = search rules
+chain x y z = pair_chain (pair_of x) (pair_of y) (pair_of z)
 
 level : (x y : Lined) → sooner x y ≡ true → sooner y x ≡ true → lined_key x ≡ lined_key y
-level x y p q = search rules
+level x y = pair_level (pair_of x) (pair_of y)
 
 -- indices by keys
 
@@ -119,12 +125,12 @@ module _ (passes : List Timing → ℕ → Bool) (boards cycle : ℕ) (rs : List
 
 -- the memory past what was ever held
 
-pub past_on : (n k : ℕ) (xs ys zs : List Lined) → k ≤ n → Past n xs ys → length zs ≡ length ys → drop k zs ≡ drop k ys → Past n xs zs
-past_on n k xs ys zs le p long rest =
-    let e : k + (n - k) ≡ n = omega arith in
-    let same : drop n zs ≡ drop n ys =
-    ap (λ (m : ℕ). drop m zs) (sym e) ∙ sym (drop-drop (n - k) k zs) ∙ ap (drop (n - k)) rest ∙ drop-drop (n - k) k ys ∙ ap (λ (m : ℕ). drop m ys) e in
-    record { long = long ∙ p.long; rest = same ∙ p.rest }
+-- of a heap whose memory was xs but for the first n slots, after calls that kept the others
+pub past_kept : {g : Ghosts Lined} (n k m : ℕ) (xs : List Lined) (first now' last : Heap Lined g) → k ≡ n → m ≤ n → Past k xs (memory first) → Kept n first now' → Kept m now' last → Past n xs (memory last)
+past_kept n k m xs first now' last same le p was more =
+    let kept = kept_on first now' last m n le was more in
+    let start : Past n xs (memory first) = subst (λ (j : ℕ). Past j xs (memory first)) same p in
+    record { long = kept.same_room ∙ start.long; rest = kept.beyond ∙ start.rest }
 
 pub past_is : (n : ℕ) (xs ys zs : List Lined) → Past n xs ys → zs ≡ ys → Past n xs zs
 past_is n xs ys zs p e = subst (λ l. Past n xs l) (sym e) p

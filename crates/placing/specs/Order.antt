@@ -1,6 +1,7 @@
 -- The order in which duties are taken: by deadline, from the smallest up, and by line where deadlines are level.
-use Rattle.std.specs.Prelude.{ℕ, ◌+◌, Bool, ◌&&◌, ◌||◌, List, [], ◌∷◌, map, ◌==◌, nat_le, nat_lt}
+use Rattle.std.specs.Prelude.{ℕ, ◌+◌, Bool, List, [], ◌∷◌, map}
 use Rattle.duty.specs.declared.records.Record.{Record}
+use Rattle.heap.specs.Pairs.{pair_upto, pair_key}
 use Rattle.heap.specs.Sorted.{sorted}
 use Rattle.placing.specs.declared.lined.Lined.{Lined}
 
@@ -8,13 +9,16 @@ use Rattle.placing.specs.declared.lined.Lined.{Lined}
 abbrev pub due : Lined → ℕ
 due e = e.record.timing.deadline
 
+-- what entries go by: the deadline, and then the line
+abbrev pub pair_of : Lined → ℕ × ℕ
+pair_of e = (due e, e.index)
+
 -- e is taken before f, or is level with it
 abbrev pub sooner : Lined → Lined → Bool
-sooner e f = nat_lt (due e) (due f) || (due e == due f && nat_le e.index f.index)
+sooner e f = pair_upto (pair_of e) (pair_of f)
 
--- deadline, and then line
 abbrev pub lined_key : Lined → List ℕ
-lined_key e = due e ∷ e.index ∷ []
+lined_key e = pair_key (pair_of e)
 
 -- records with their indices, counted from i
 abbrev pub lined : ℕ → List Record → List Lined

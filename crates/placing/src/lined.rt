@@ -1,6 +1,6 @@
 // What placing keeps in the scratch memory.
-ghost use Rattle.placing.specs.Order.{sooner, lined_key};
-ghost use Rattle.std.proofs.Common.{rules};
+ghost use Rattle.heap.specs.Pairs.{pair_total, pair_chain, pair_level};
+ghost use Rattle.placing.specs.Order.{pair_of, sooner, lined_key};
 
 use duty::Record;
 use heap::Entry;
@@ -26,11 +26,11 @@ impl Entry for Lined {
 
     ghost upto = { sooner };
 
-    ghost total = { Prim.search rules };
+    ghost total = { λ x y. pair_total (pair_of x) (pair_of y) };
 
-    ghost chain = { Prim.search rules };
+    ghost chain = { λ x y z. pair_chain (pair_of x) (pair_of y) (pair_of z) };
 
-    ghost level = { Prim.search rules };
+    ghost level = { λ x y. pair_level (pair_of x) (pair_of y) };
 
     fn precedes(&self, other: &Lined) -> bool {
         (self.record.timing.deadline, self.index) <= (other.record.timing.deadline, other.index)
