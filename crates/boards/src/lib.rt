@@ -12,7 +12,7 @@ use gauge::Gauge;
 const BLOCK: usize = 16;
 
 // Copies the timings of the board's records to `list` from place `from` on, and answers the place after
-// the last; none where they are more than `list` has room for.
+// the last; none where they are more than `list` has room for. (Why an array and a count: see `board_passes`.)
 fn add(records: &[Record], board: u8, list: &mut [Timing], from: usize) -> Option<usize>
     requires { from ≤ length list.old }
     ensures { MatchOption result (length list.old < from + length (on_board board records.now)) (λ n. (n ≤ length list.old) × (take n list.new ≡ take from list.old ++ on_board board records.now)) }

@@ -83,13 +83,13 @@ module _ (cycle : ℕ) (d : Timing) where
         let l : d.cost * k ≤ d.spacing * k = mul-le-mul_right k (omega (arith, f.is.feasible, f.is.constrained)) in
         omega (arith, mul_comm d.spacing k, f.rounds)
 
-    slope_most : (t : ℕ) → t < 2 ^ 32 → cycle ≤ longest → slope_at cycle t d ≤ longest * longest + longest * 2 ^ 32
-    slope_most t near short =
+    slope_most : (t : ℕ) → cycle ≤ longest → slope_at cycle t d ≤ longest * longest + longest * t
+    slope_most t short =
         ⊎_elim
         (λ h. omega (arith, slope_before t h))
         (λ h.
         let a : d.cost * cycle ≤ longest * longest = mul-le-mul {n₂ = longest} {m₂ = longest} (omega (arith, f.is.feasible, f.is.constrained, f.is.bounded)) short in
-        let b : rate cycle d * (t - d.deadline) ≤ longest * 2 ^ 32 = mul-le-mul {n₂ = longest} {m₂ = 2 ^ 32} (omega (arith, rate_most)) (omega arith) in
+        let b : rate cycle d * (t - d.deadline) ≤ longest * t = mul-le-mul {n₂ = longest} {m₂ = t} (omega (arith, rate_most)) (omega arith) in
         omega (arith, slope_after t h))
         (cases_lt t d.deadline)
 
@@ -118,7 +118,7 @@ module _ (ds : List Timing) (cycle : ℕ) where
   pub slopes_fit : FairList ds cycle → (t : ℕ) → t < 2 ^ 32 → slope_sum ds cycle t < 2 ^ 64
   slopes_fit w t near =
       let most = longest * longest + longest * 2 ^ 32 in
-      let each = All-weaker (Fair cycle) (λ d. slope_at cycle t d ≤ most) (λ d f. slope_most cycle d f t near w.short) ds w.each_fair in
+      let each = All-weaker (Fair cycle) (λ d. slope_at cycle t d ≤ most) (λ d f. omega (arith, slope_most cycle d f t w.short)) ds w.each_fair in
       let few : length ds * most ≤ most_duties * most = mul-le-mul_right most w.few in
       omega (arith, total_most (slope_at cycle t) most ds each, few)
 

@@ -9,7 +9,7 @@ use crate::gauges::Gauge;
 use crate::slope::Slope;
 use duty::{Letter, Timing};
 
-// Passes what the gauge of that letter passes.
+// Passes what the gauge of that letter passes: a match, since a table asks for one of just these three by name.
 impl Gauge for Letter {
     ghost passed = { letter_passed };
 

@@ -8,7 +8,7 @@ use crate::fair_list::FairList;
 use duty::{Header, LONGEST, Timing};
 
 // The most duties of a list.
-pub(crate) const MOST: usize = Header::MOST_DUTIES as usize;
+pub(crate) const MOST: usize = Header::MOST_RECORDS;
 
 fn is_fair_timing(duty: &Timing, cycle: u32) -> bool
     ensures { result ≡ fair_timing cycle duty.now }

@@ -28,6 +28,7 @@ pub fn attempt(
     Some(place(&Density, &header, records, scratch))
 }
 
+// One line here, as in other crates' tests, is less than a crate to share it.
 pub fn refused(cause: Cause, line: usize, column: usize) -> Option<Result<(), Fault>> {
     Some(Err(Fault::of_call(cause).at(line, column)))
 }

@@ -9,10 +9,10 @@ use duty::{Header, Record};
 use fault::{Cause, Fault};
 use gauge::Gauge;
 
-fn is_on_some(record: &Record, boards: u8) -> bool
-    ensures { result ≡ on_some boards record.now }
+fn is_on_some(row: &Record, boards: u8) -> bool
+    ensures { result ≡ on_some boards row.now }
 {
-    (1..=boards).contains(&record.board)
+    (1..=boards).contains(&row.board)
 }
 
 // The first record that is on no board of the header.

@@ -9,6 +9,7 @@ fn row(cost: u32, board: u8) -> Record {
     Record::new(*b"STOP-8  ", Timing::new(cost, 100, 100), board)
 }
 
+// One line here, as in other crates' tests, is less than a crate to share it.
 fn refused(cause: Cause, line: usize, column: usize) -> Option<Result<(), Fault>> {
     Some(Err(Fault::of_call(cause).at(line, column)))
 }

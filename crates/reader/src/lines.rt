@@ -54,7 +54,7 @@ impl<'a> Reader<'a> {
         }
     }
 
-    // Reads the line that is due, and moves past it; where it is refused, stays.
+    // Reads the line that is due, of just two kinds, and moves past it; where it is refused, stays.
     pub fn line(&mut self, due: Due) -> Result<Line<'a>, Fault>
         ensures answer { cases result ≡ line_case due self.old.pos self.old.line (rest self.old) }
         ensures moves { Moved (due_width due) (is_ok result) self.old self.new }

@@ -14,7 +14,7 @@ pub struct Case {
 }
 
 impl Case {
-    // Reads `CALL |TEXT| OUTCOME`.
+    // Reads `CALL |TEXT| OUTCOME`. No `FromStr`, since it allocates.
     pub fn parse(heap: Global, line: &str) -> Result<Case, NoCase> {
         let (call, rest) = line.split_once(" |").ok_or(NoCase::Form)?;
         let (text, outcome) = rest.split_once("| ").ok_or(NoCase::Form)?;

@@ -37,7 +37,7 @@ impl FromStr for Part {
 }
 
 impl Change {
-    // Reads `LINE.PART`; the first record is that of line 2.
+    // Reads `LINE.PART`; the first record is that of line 2. No `FromStr`, since the value comes apart from it.
     pub fn parse(name: &str, value: u32) -> Result<Change, NoCase> {
         let (line, part) = name.split_once('.').ok_or(NoCase::Form)?;
         Ok(Change {

@@ -36,6 +36,7 @@ fn run_on<Q: ReadyQueue + Drop>(plan: &ClosedPlan<Letter>, queue: Q, count: u64)
     ticks(&mut board, count)
 }
 
+// Queues go by name here, as the argument gives it.
 fn run_named(
     rt: &HostRuntime,
     plan: &ClosedPlan<Letter>,

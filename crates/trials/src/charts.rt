@@ -32,7 +32,7 @@ fn clock_after(events: &[Event]) -> usize
     events.iter().filter(|event| is_tick(event)).count()
 }
 
-// How many events there are up to the last tick of a fold.
+// How many events there are up to the last tick of a fold. The ticks are counted here, since the clauses speak of them.
 fn fold_length(events: &[Event]) -> usize
     ensures within { result ≤ length events.now }
     ensures full { result < length events.now → clock (take result events.now) ≡ fold }

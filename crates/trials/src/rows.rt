@@ -113,6 +113,7 @@ impl Row {
             f.write_char(byte as char)?;
         }
         write!(f, "  ")?;
+        // It goes on with the ticks alone, not with each event.
         let mut clock = clock;
         for event in events {
             self.follow(event, place);

@@ -48,7 +48,7 @@ pub fn read_script(heap: Global, text: &[u8]) -> Result<Script, AllocError>
     })
 }
 
-// How many calls come before the next command that is none.
+// How many calls come before the next command that is none. (Of a chain with a default for none nothing is proved alone.)
 pub fn calls_in_front(commands: &[Command]) -> usize
     ensures value { result ≡ prefix_len is_call commands.now }
     ensures within { result ≤ length commands.now }

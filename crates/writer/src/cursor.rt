@@ -20,7 +20,7 @@ use duty::{Header, Record};
 // Where the next line goes: `pos` is the place of its first byte.
 // `out` stays whole, with a place beside it: if a method kept the rest of it alone, a clause would have to say what
 // is lent on, and such a clause is proved by hand alone. Each method needs another amount of room: so clauses ask
-// for it, and no field of the type.
+// for it, and no field of the type. That records fit their columns was checked by who calls these private methods.
 #[derive(Drop)]
 pub(crate) struct Writer<'a> {
     out: &'a mut [u8],

@@ -69,7 +69,7 @@ impl<Q: ReadyQueue> RunningBoard<Q> {
         ended
     }
 
-    // Makes one call.
+    // Makes one call: a match, since calls are the caller's data, of just these kinds.
     pub(crate) fn call(&mut self, call: Call) -> Answer
         ensures { Called call self.old result self.new }
     {

@@ -11,7 +11,7 @@ use super::State;
 use crate::places::Place;
 
 impl State {
-    // The place, if there is one of this number.
+    // The place, if there is one of this number. That its last arrival lies behind the clock is promised to others too.
     pub fn place(&self, p: usize) -> Option<Place>
         ensures place { option_map seen result ≡ slice_get (board_of self.now).places p }
         ensures arrived { IfSome result (λ x. past self.now.clock.ticks x ≡ true) }

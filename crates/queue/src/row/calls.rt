@@ -54,6 +54,7 @@ fn better(best: Option<Waiting>, place: usize, slot: Option<u64>) -> Option<Wait
     }
 }
 
+// `put` and `drop` differ in what they store; as one function over an `Option` they would be no shorter.
 impl ReadyQueue for RowQueue {
     ghost held = { λ q. q.slots };
 
