@@ -1,6 +1,6 @@
 -- Duties are given places one after another, as many as there are places.
-use Rattle.std.proofs.Common.{◌≡◌, ℕ, zero, suc, ◌+◌, ◌<◌, ◌≤◌, List, [], ◌∷◌, ◌++◌, map, length, get_or, take, sym, refl, ap, ◌∙◌}
-use Rattle.std.proofs.lemmas.List.{take-map, take_all, map_push, map_more}
+use Rattle.std.proofs.Common.{◌≡◌, ℕ, zero, suc, ◌+◌, ◌<◌, ◌≤◌, List, [], ◌∷◌, ◌++◌, map, length, get_or, take, sym, refl, ap, ◌∙◌, arith}
+use Rattle.std.proofs.lemmas.List.{length-take-le, take-map, take_all, map_push, map_more}
 use Rattle.duty.specs.declared.duties.Duty.{Duty}
 use Rattle.duty.specs.declared.timings.Timing.{Timing}
 use Rattle.queue.specs.Places.{places as width}
@@ -37,3 +37,10 @@ module _ (b : Board) (ds : List Duty) (i : ℕ) (so_far : b ≡ loaded (take wid
       so_far
       ∙ ap (λ (l : List Duty). loaded (take width (map timing_of l))) (take_all i ds past)
       ∙ ap loaded (take-map timing_of width ds)
+
+-- the duties that there are places for
+pub first_length : (ds : List Duty) → width < length ds → width ≡ length (take width ds)
+first_length ds many = sym (length-take-le width ds (omega (arith, many)))
+
+pub first_all : (ds : List Duty) → length ds ≤ width → ds ≡ take width ds
+first_all ds few = sym (take_all width ds few)

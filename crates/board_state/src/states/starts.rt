@@ -22,6 +22,17 @@ pub(super) fn idle_place(duty: Duty) -> Place
     }
 }
 
+// The duties that there are places for: the first 64. Those past them cost nothing.
+#[tactic(auto, using(crate::proofs::Seating::first_length, crate::proofs::Seating::first_all))]
+fn first_duties(duties: &[Duty]) -> &[Duty]
+    ensures { result.now ≡ take width duties.now }
+{
+    if duties.len() > PLACES {
+        return &duties[..PLACES];
+    }
+    duties
+}
+
 impl State {
     // The duties at the places from 0 on, in this order, and nothing has arrived; past 64 they are left out.
     pub fn new(duties: &[Duty]) -> State
@@ -32,7 +43,7 @@ impl State {
             count: 0,
             places: [idle_place(Duty::SHORTEST); PLACES],
         };
-        for duty in duties {
+        for duty in first_duties(duties) {
             state.seat(*duty);
         }
         state
