@@ -50,12 +50,19 @@ fn fold_length(events: &[Event]) -> usize
     events.len()
 }
 
-// Starts a row each for the first duties of the board.
-fn start_rows(records: &[Record], board: u8, rows: &mut [Row]) {
-    let duties = records.iter().filter(|record| record.board == board);
-    for (row, duty) in rows.iter_mut().zip(duties) {
-        *row = Row::new(duty.name);
+// Starts a row each for the first duties of the board, and answers how many there are. In one pass: to count the duties
+// first takes half as long again, where there are many records. (As a `zip` of rows and duties, no proof bounds the count.)
+fn start_rows(records: &[Record], board: u8, rows: &mut [Row]) -> usize
+    ensures { result ≤ length rows.old }
+{
+    let mut count = 0;
+    for record in records {
+        if record.board == board && count < rows.len() {
+            rows[count] = Row::new(record.name);
+            count += 1;
+        }
     }
+    count
 }
 
 // Writes a row each for the events from one reading of the clock on; at the end of the run, its last reading too.
@@ -117,9 +124,8 @@ impl fmt::Display for Chart<'_> {
     fn fmt<W: fmt::Write>(&self, f: &mut fmt::Formatter<W>) -> fmt::Result {
         // An array and a count, since printing has no allocator.
         let mut rows = [Row::new(Record::BLANK.name); Header::MOST_RECORDS];
-        let count = count_on(self.records, self.board).min(rows.len());
+        let count = start_rows(self.records, self.board, &mut rows);
         let rows = &mut rows[..count];
-        start_rows(self.records, self.board, rows);
         let ticks = clock_after(self.events);
         let board = self.board;
         writeln!(f, "board {board}, clock 0 to {ticks}")?;
