@@ -40,13 +40,6 @@ impl HeapQueue {
         let HeapQueue { memory, len: _ } = self;
         memory
     }
-
-    // The entries in the heap.
-    fn entries(&self) -> &[Timed]
-        ensures { result.now ≡ entries self.now }
-    {
-        &self.memory[..self.len]
-    }
 }
 
 // Its clauses are the trait's, and that the memory keeps its length.
@@ -85,6 +78,10 @@ impl ReadyQueue for HeapQueue {
     }
 
     fn first(&self) -> Option<usize> {
-        self.entries().first().map(|entry| entry.place)
+        // By index: of a `map` over the first entry no edit shows that another entry's place is refused for its meaning.
+        if self.len == 0 {
+            return None;
+        }
+        Some(self.memory[0].place)
     }
 }
