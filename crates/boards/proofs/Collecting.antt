@@ -1,6 +1,6 @@
 -- The steps of the loops that collect a board's list.
-use Rattle.std.proofs.Common.{◌≡◌, ℕ, ◌+◌, ◌<◌, ◌≤◌, eqb, List, [], ◌∷◌, ◌++◌, length, get_or, take, drop, sym, refl, ap, ◌∙◌, ⊎_elim, append_assoc, arith, length-append, take-append-drop}
-use Rattle.std.proofs.lemmas.List.{at_drop_more, length-take-le}
+use Rattle.std.proofs.Common.{◌≡◌, ℕ, ◌+◌, ◌<◌, ◌≤◌, eqb, List, [], ◌∷◌, ◌++◌, length, get_or, take, drop, set, Some, None, Option, sym, refl, ap, ◌∙◌, ⊎_elim, append_assoc, arith, length-append, take-append-drop, MatchOption}
+use Rattle.std.proofs.lemmas.List.{at_drop_more, take_more_set, length-take-le}
 use Rattle.std.proofs.lemmas.Bool.{cond-true, cond-false, cases_Bool, eq-eqb}
 use Rattle.duty.specs.declared.records.Record.{Record}
 use Rattle.duty.specs.declared.timings.Timing.{Timing}
@@ -10,6 +10,15 @@ use Rattle.boards.specs.Lists.{on_board}
 module _ (rs : List Record) (b i : ℕ) (d : Record) (within : i < length rs) where
   here : (get_or rs i d).board ≡ b → on_board b (drop i rs) ≡ (get_or rs i d).timing ∷ on_board b (drop (i + 1) rs)
   here e = at_drop_more (on_board b) rs i d within ∙ cond-true _ _ _ (eq-eqb _ _ e)
+
+  pub collects : (list whole : List Timing) (n : ℕ) → n < length list → (get_or rs i d).board ≡ b → take n list ++ on_board b (drop i rs) ≡ whole → take (n + 1) (set list n (get_or rs i d).timing) ++ on_board b (drop (i + 1) rs) ≡ whole
+  collects list whole n room e inv =
+      let x = (get_or rs i d).timing in
+      let rest = on_board b (drop (i + 1) rs) in
+      ap (λ l. l ++ rest) (take_more_set list n x room)
+      ∙ append_assoc (take n list) (x ∷ []) rest
+      ∙ ap (λ l. take n list ++ l) (sym (here e))
+      ∙ inv
 
   pub too_many : (list whole : List Timing) (n : ℕ) → n ≡ length list → (get_or rs i d).board ≡ b → take n list ++ on_board b (drop i rs) ≡ whole → length list < length whole
   too_many list whole n full e inv =
@@ -43,3 +52,7 @@ module _ (rs left block : List Record) (b k n : ℕ) (list : List Timing) (first
   block_too_long within long =
       let parts = length-append (on_board b (take k left)) (on_board b (drop k left)) in
       omega (arith, long, ap length inv, length-append (take n list) (on_board b left), length-take-le n list within, ap length (in_parts b k left), parts, ap (λ l. length (on_board b l)) first)
+
+pub cases_map : {A : Type 0} {P P' : Type 0} {Q Q' : A → Type 0} (o : Option A) → (P → P') → ((x : A) → Q x → Q' x) → MatchOption o P Q → MatchOption o P' Q'
+cases_map (Some x) none some h = some x h
+cases_map None none some h = none h

@@ -11,7 +11,7 @@ use Rattle.gauge.specs.Totals.{total_map}
 use Rattle.gauge.specs.Fairness.{fair_list}
 use Rattle.gauge.specs.Slopes.{slopes_fit}
 
--- a loop that writes f of each element to its place; the crates above use it
+-- a loop that writes f of each element to its place
 module _ {A B : Type 0} (f : A → B) (xs : List A) (ys : List B) (i : ℕ) (so_far : take i ys ≡ map f (take i xs)) where
   pub written_more : (d : A) (y : B) → i < length xs → i < length ys → y ≡ f (get_or xs i d) → take (i + 1) (set ys i y) ≡ map f (take (i + 1) xs)
   written_more d y within room e =

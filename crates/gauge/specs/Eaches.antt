@@ -1,8 +1,9 @@
--- Tests of each element of a list and of each number up to one.
-use Rattle.std.specs.Prelude.{◌≡◌, ℕ, zero, suc, ◌≤◌, Bool, true, false, ◌&&◌, List, [], ◌∷◌, map, refl}
-use Rattle.std.proofs.Common.{⊎_elim, ap, ◌∙◌, arith}
+-- Tests of each element of a list and of each number up to one, and the steps of a loop that makes one.
+use Rattle.std.specs.Prelude.{◌≡◌, ℕ, zero, suc, ◌+◌, ◌<◌, ◌≤◌, Bool, true, false, ◌&&◌, List, [], ◌∷◌, map, length, drop, slice_index_or, refl}
+use Rattle.std.proofs.Common.{⊎_elim, sym, ap, ◌∙◌, arith}
 use Rattle.std.specs.List.{AllByRecursion}
-use Rattle.std.proofs.lemmas.Bool.{true≢false, and_parts, and_from, and_cases, both_ways, cases_Bool, cases_eq}
+use Rattle.std.proofs.lemmas.List.{at_drop_more, at_drop_all}
+use Rattle.std.proofs.lemmas.Bool.{true≢false, and_parts, and_from, and_left, and_cases, both_ways, cases_Bool, cases_eq}
 use Rattle.gauge.specs.Each.{each, each_to}
 
 module _ {A : Type 0} (p : A → Bool) where
@@ -19,6 +20,19 @@ module _ {A : Type 0} (p : A → Bool) where
   pub each_map : {B : Type 0} (g : B → A) (ys : List B) → each p (map g ys) ≡ each (λ y. p (g y)) ys
   each_map g [] = refl
   each_map g (y ∷ ys) = ap (λ b. p (g y) && b) (each_map g ys)
+
+  -- a loop that stops at the first failure: what is left decides
+  module _ (xs : List A) (i : ℕ) (left : each p (drop i xs) ≡ each p xs) where
+    pub each_more : (d : A) → i < length xs → p (slice_index_or xs i d) ≡ true → each p (drop (i + 1) xs) ≡ each p xs
+    each_more d within e =
+        let more : each p (drop i xs) ≡ (p (slice_index_or xs i d) && each p (drop (i + 1) xs)) = at_drop_more (each p) xs i d within in
+        sym (sym left ∙ more ∙ ap (λ b. b && each p (drop (i + 1) xs)) e)
+
+    pub each_stops : (d : A) → i < length xs → p (slice_index_or xs i d) ≡ false → each p xs ≡ false
+    each_stops d within e = sym left ∙ at_drop_more (each p) xs i d within ∙ and_left (p (slice_index_or xs i d)) (each p (drop (i + 1) xs)) e
+
+    pub each_all : length xs ≤ i → each p xs ≡ true
+    each_all past = sym left ∙ at_drop_all (each p) xs i past
 
 module _ (p : ℕ → Bool) where
   pub each_to_from : (n : ℕ) → ((t : ℕ) → 1 ≤ t → t ≤ n → p t ≡ true) → each_to p n ≡ true

@@ -48,6 +48,10 @@ module _ {A : Type 0} (f : A → ℕ) where
         let more : total f (drop i xs) ≡ f (slice_index_or xs i d) + total f (drop (i + 1) xs) = at_drop_more (total f) xs i d within in
         omega arith
 
+    -- each part is below what is above the whole
+    pub sum_part : (d : A) (m : ℕ) → total f xs < m → i < length xs → f (slice_index_or xs i d) < m
+    sum_part d m under within = omega (arith, sum_more d (f (slice_index_or xs i d)) within refl)
+
     pub sum_all : length xs ≤ i → sum ≡ total f xs
     sum_all past =
         let none : total f (drop i xs) ≡ 0 = at_drop_all (total f) xs i past in
