@@ -50,8 +50,8 @@ fn fold_length(events: &[Event]) -> usize
     events.len()
 }
 
-// Starts a row each for the first duties of the board, and answers how many there are. In one pass: to count the duties
-// first takes half as long again, where there are many records. (As a `zip` of rows and duties, no proof bounds the count.)
+// Starts a row each for the first duties of the board, and answers how many it started. In one pass: to count the duties
+// first takes half as long again, where there are many records. (As a `zip` of rows and duties, no proof was found that bounds the count.)
 fn start_rows(records: &[Record], board: u8, rows: &mut [Row]) -> usize
     ensures { result ≤ length rows.old }
 {

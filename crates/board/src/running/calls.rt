@@ -19,7 +19,7 @@ use model::{Answer, Call};
 use queue::ReadyQueue;
 
 // Has the queue hold what waits at a place. One that it refuses is none of the board's, and changes nothing.
-// Inlined, since a call of its own makes a tick on the heap queue a third slower.
+// Inlined, since a call of its own makes a tick on the heap queue a quarter to a third slower.
 #[inline(always)]
 fn settle<Q: ReadyQueue>(queue: &mut Q, state: &State, place: usize)
     ensures { Q.held queue.new ≡ slice_set (Q.held queue.old) place (due_at (slice_get (board_of state.now).places place)) }

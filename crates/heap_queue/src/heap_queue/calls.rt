@@ -78,7 +78,7 @@ impl ReadyQueue for HeapQueue {
     }
 
     fn first(&self) -> Option<usize> {
-        // By index: of a `map` over the first entry no edit shows that another entry's place is refused for its meaning.
+        // By index: of a `map` over the first entry, an edit that tells the same place is refused too, so no refusal says anything.
         if self.len == 0 {
             return None;
         }
