@@ -1,5 +1,5 @@
 // A run as a chart: a row a duty, a column a tick.
-ghost use Rattle.std.specs.Prelude.{◌≡◌, ◌<◌, ◌≤◌, length, take};
+ghost use Rattle.std.specs.Prelude.{◌≡◌, ◌<◌, ◌≤◌, length, min, take};
 ghost use Rattle.boards.specs.Lists.{on_board};
 ghost use Rattle.model.specs.Events.{clock};
 ghost use Rattle.trials.specs.Folds.{fold};
@@ -53,7 +53,8 @@ fn fold_length(events: &[Event]) -> usize
 // Starts a row each for the first duties of the board, and answers how many it started. In one pass: to count the duties
 // first takes half as long again, where there are many records. (As a `zip` of rows and duties, no proof was found that bounds the count.)
 fn start_rows(records: &[Record], board: u8, rows: &mut [Row]) -> usize
-    ensures { result ≤ length rows.old }
+    ensures within { result ≤ length rows.old }
+    ensures count { result ≡ min (length (on_board board records.now)) (length rows.old) }
 {
     let mut count = 0;
     for record in records {
